@@ -1,0 +1,376 @@
+//! Random pairs of a valid case and a certificate accepted for it.
+//!
+//! A schedule is drawn first and the case is drawn around it, tight against
+//! some of its rows and loose against others. So every pair is accepted, of
+//! whatever size, without any solver.
+
+use crate::case::{flag, status, Case, Curve, Flowgate, Kind, Limits, Reserve, Resource, Step};
+use crate::certificate::Certificate;
+use crate::layout::{
+    self, Counts, CURVES, CURVE_STEPS, ENERGY_STEPS, MOST_FLOWGATES, MOST_RESOURCES, MOST_ZONES,
+};
+use crate::random::Random;
+use crate::rows::{index_of, rows};
+use crate::standing::{is_online, standing, standings, Product, Standing};
+use crate::units::{Cents, Kw};
+
+/// A case and a certificate for it, with their files.
+#[derive(Clone, Debug)]
+pub struct Pair {
+    pub case: Case,
+    pub certificate: Certificate,
+}
+
+impl Pair {
+    pub fn case_file(&self) -> Vec<u8> {
+        let fields = layout::case_fields(self.case.counts);
+        layout::write_fields(self.case.counts, &self.case.numbers(), &fields)
+    }
+
+    pub fn certificate_file(&self) -> Vec<u8> {
+        let fields = layout::certificate_fields(self.certificate.counts);
+        layout::write_fields(self.certificate.counts, &self.certificate.numbers(), &fields)
+    }
+}
+
+/// How large the figures of a case may become.
+#[derive(Clone, Copy, Debug, PartialEq, Eq)]
+pub struct Scale {
+    /// The largest limit of a resource.
+    pub power: Kw,
+    /// The widest step of a demand curve.
+    pub curve_width: Kw,
+    pub ramp: Kw,
+    pub price: Cents,
+}
+
+impl Scale {
+    /// Up to the ends of every range.
+    pub const FULL: Scale =
+        Scale { power: 2_000_000, curve_width: 8_000_000, ramp: 400_000, price: 400_000 };
+    /// Power stations of a common size.
+    pub const COMMON: Scale =
+        Scale { power: 400_000, curve_width: 600_000, ramp: 8_000, price: 9_000 };
+    /// A handful of kW, so that figures meet and edges are hit often.
+    pub const SMALL: Scale = Scale { power: 60, curve_width: 40, ramp: 6, price: 9 };
+    /// So few kW that every schedule can be written down.
+    pub const TINY: Scale = Scale { power: 3, curve_width: 1, ramp: 1, price: 9 };
+}
+
+/// Counts of every size, the ends of their ranges among them.
+pub fn random_counts(random: &mut Random) -> Counts {
+    let (resources, zones, flowgates) = match random.between(0, 3) {
+        0 => (4, 2, 2),
+        1 => (12, 4, 6),
+        _ => (MOST_RESOURCES, MOST_ZONES, MOST_FLOWGATES),
+    };
+    Counts {
+        resources: random.edgy(1, resources as i64) as usize,
+        zones: random.edgy(1, zones as i64) as usize,
+        flowgates: random.edgy(0, flowgates as i64) as usize,
+    }
+}
+
+/// An accepted pair of any size and scale.
+pub fn random_pair(random: &mut Random) -> Pair {
+    let counts = random_counts(random);
+    pair_of_counts(random, counts)
+}
+
+/// An accepted pair of the given size and any scale.
+pub fn pair_of_counts(random: &mut Random, counts: Counts) -> Pair {
+    let scale = random.pick(&[Scale::FULL, Scale::COMMON, Scale::COMMON, Scale::SMALL]);
+    pair_of_scale(random, counts, scale)
+}
+
+/// An accepted pair of the given size and scale.
+pub fn pair_of_scale(random: &mut Random, counts: Counts, scale: Scale) -> Pair {
+    let mut case = market(random, counts, scale);
+    let mut amounts = vec![0; Curve::ALL.len()];
+    for _ in 0..counts.resources {
+        let (resource, its_amounts) = resource_with_schedule(random, &case, scale);
+        case.resources.push(resource);
+        amounts.extend(its_amounts);
+    }
+    case.demand = energies(&amounts).iter().sum();
+    case.flowgates = (0..counts.flowgates).map(|_| flowgate(random, &energies(&amounts))).collect();
+    set_zone_requirements(random, &mut case, &amounts);
+    clear_curves(random, &case, &mut amounts);
+    let row_prices = row_prices(random, &case, scale);
+    Pair { case, certificate: Certificate { counts, amounts, row_prices } }
+}
+
+/// The market-wide figures; resources, zones and flowgates come later.
+fn market(random: &mut Random, counts: Counts, scale: Scale) -> Case {
+    Case {
+        counts,
+        demand: 0,
+        contingency: reserve(random, scale),
+        regulating: reserve(random, scale),
+        short_term: reserve(random, scale),
+        curves: std::array::from_fn(|_| curve(random, scale)),
+        zones: vec![[0; CURVES]; counts.zones],
+        resources: Vec::new(),
+        flowgates: Vec::new(),
+    }
+}
+
+fn reserve(random: &mut Random, scale: Scale) -> Reserve {
+    let multiplier = match random.between(0, 4) {
+        0 => 1000,
+        1 => 700,
+        _ => random.edgy(1, 5000),
+    };
+    Reserve {
+        multiplier,
+        minutes: random.edgy(1, 60),
+        share: random.edgy(0, 1000),
+        requirement: random.edgy(0, 4 * scale.curve_width.min(2_000_000)),
+    }
+}
+
+fn curve(random: &mut Random, scale: Scale) -> [Step; CURVE_STEPS] {
+    let used = random.edgy(0, CURVE_STEPS as i64) as usize;
+    let mut prices: Vec<Cents> = (0..used).map(|_| random.edgy(0, scale.price)).collect();
+    prices.sort_unstable_by(|one, other| other.cmp(one));
+    let mut steps = [Step::default(); CURVE_STEPS];
+    for (step, price) in steps.iter_mut().zip(prices) {
+        *step = Step { width: random.edgy(1, scale.curve_width), price };
+    }
+    steps
+}
+
+/// A resource of a case whose market-wide figures stand, and five quantities
+/// that keep its own rows.
+fn resource_with_schedule(random: &mut Random, case: &Case, scale: Scale) -> (Resource, [Kw; 5]) {
+    let mut resource = loose_resource(random, case.counts, scale);
+    if !is_online(&resource) {
+        resource.steps = energy_steps(random, 0, scale);
+        let standing = standing(case, &resource);
+        return (resource, offline_amounts(random, &standing));
+    }
+    let mut before = standing(case, &resource);
+    if before.minimum > before.maximum {
+        drop_minima(&mut resource, before.maximum);
+        before = standing(case, &resource);
+    }
+    let energy = random.edgy(before.minimum, before.maximum);
+    resource.steps = energy_steps(random, energy, scale);
+    let lowest = (energy - 5 * resource.ramp_up).max(0);
+    let highest = (energy + 5 * resource.ramp_down).min(2_000_000);
+    resource.initial = random.edgy(lowest, highest);
+    if resource.has_flag(flag::SELF_SCHEDULED) {
+        resource.self_schedule = random.edgy(0, energy);
+    }
+    let standing = standing(case, &resource);
+    let amounts = online_amounts(random, &standing, energy);
+    (resource, amounts)
+}
+
+/// MIN and MAX may come from different pairs of limits; where MIN would stand
+/// above MAX no schedule exists, so every minimum gives way.
+fn drop_minima(resource: &mut Resource, most: Kw) {
+    for limits in [&mut resource.economic, &mut resource.regulating, &mut resource.emergency] {
+        limits.minimum = limits.minimum.min(most);
+    }
+}
+
+/// A resource whose fields are in range, each pair of limits in order.
+fn loose_resource(random: &mut Random, counts: Counts, scale: Scale) -> Resource {
+    Resource {
+        kind: random.pick(&[
+            Kind::Conventional,
+            Kind::Conventional,
+            Kind::Intermittent,
+            Kind::ExternalAsynchronous,
+        ]),
+        zone: random.edgy(1, counts.zones as i64) as usize,
+        breaker_closed: random.percent(85),
+        status: status_bits(random),
+        minutes_since_trip: random.pick(&[255, 255, 255, 255, 255, 0, 15, 16, 254]),
+        flags: random.between(0, 255),
+        output: output(random, scale),
+        economic: limits(random, scale),
+        regulating: limits(random, scale),
+        emergency: limits(random, scale),
+        ramp_up: random.edgy(0, scale.ramp),
+        ramp_down: random.edgy(0, scale.ramp),
+        ramp_rate: random.edgy(0, scale.ramp),
+        initial: random.edgy(0, scale.power),
+        offline_response: random.edgy(0, scale.power),
+        offline_short_term: random.edgy(0, scale.power),
+        self_schedule: random.edgy(0, scale.power),
+        regulating_price: random.edgy(0, scale.price),
+        contingency_price: random.edgy(0, scale.price),
+        offline_short_term_price: random.edgy(0, scale.price),
+        steps: [Step::default(); ENERGY_STEPS],
+    }
+}
+
+/// Any status, with the bits that bring a resource on-line more often set.
+fn status_bits(random: &mut Random) -> i64 {
+    let likely = status::COMMITTED | status::AVAILABLE | status::ACTIVE_SCHEDULE;
+    let bits = random.between(0, 15);
+    if random.percent(60) {
+        bits | likely
+    } else {
+        bits
+    }
+}
+
+fn output(random: &mut Random, scale: Scale) -> Kw {
+    match random.between(0, 9) {
+        0 => random.pick(&[-2_000_000, 2_000_000]),
+        1 => random.pick(&[-501, -500, -499, -1, 0, 1, 499, 500, 501]),
+        2 => -random.between(0, scale.power),
+        _ => 500 + random.between(0, scale.power.min(1_999_500)),
+    }
+}
+
+fn limits(random: &mut Random, scale: Scale) -> Limits {
+    let maximum = random.edgy(0, scale.power);
+    let minimum = match random.between(0, 2) {
+        0 => 0,
+        1 => random.between(0, maximum / 3),
+        _ => random.edgy(0, maximum),
+    };
+    Limits { minimum, maximum }
+}
+
+/// An offer of at least `energy` kW, its prices never falling.
+fn energy_steps(random: &mut Random, energy: Kw, scale: Scale) -> [Step; ENERGY_STEPS] {
+    let total = match random.between(0, 3) {
+        0 => energy,
+        1 => 2_000_000.min(energy + random.between(0, 20)),
+        _ => random.edgy(energy, scale.power.max(energy)),
+    };
+    let used = random.between(1, ENERGY_STEPS as i64).min(total);
+    let mut cuts: Vec<Kw> = (1..used).map(|_| random.between(1, (total - 1).max(1))).collect();
+    cuts.extend([0, total]);
+    cuts.sort_unstable();
+    cuts.dedup();
+    let widths: Vec<Kw> = cuts.windows(2).map(|pair| pair[1] - pair[0]).collect();
+    let mut prices: Vec<Cents> = widths.iter().map(|_| energy_price(random, scale)).collect();
+    prices.sort_unstable();
+    let mut steps = [Step::default(); ENERGY_STEPS];
+    for ((step, width), price) in steps.iter_mut().zip(widths).zip(prices) {
+        *step = Step { width, price };
+    }
+    steps
+}
+
+fn energy_price(random: &mut Random, scale: Scale) -> Cents {
+    if random.percent(12) {
+        random.edgy(-scale.price, scale.price)
+    } else {
+        random.between(scale.price / 5, scale.price)
+    }
+}
+
+fn offline_amounts(random: &mut Random, standing: &Standing) -> [Kw; 5] {
+    let [_, _, contingency, _, short_term] = standing.bounds;
+    [0, 0, random.edgy(0, contingency), 0, random.edgy(0, short_term)]
+}
+
+fn online_amounts(random: &mut Random, standing: &Standing, energy: Kw) -> [Kw; 5] {
+    let [_, regulating, contingency, short_term, _] = standing.bounds;
+    let above = standing.maximum - energy;
+    let below = energy - standing.minimum;
+    let regulating = random.edgy(0, regulating.min(above).min(below));
+    let contingency = random.edgy(0, contingency.min(above - regulating));
+    let short_term = random.edgy(0, short_term.min(above));
+    [energy, regulating, contingency, short_term, 0]
+}
+
+fn energies(amounts: &[Kw]) -> Vec<Kw> {
+    amounts[Curve::ALL.len()..].chunks(Product::ALL.len()).map(|chunk| chunk[0]).collect()
+}
+
+/// A flowgate that the energies keep, now and then with nothing to spare.
+fn flowgate(random: &mut Random, energies: &[Kw]) -> Flowgate {
+    const MOST: Kw = 20_000_000;
+    let mut factors: Vec<i64> = energies
+        .iter()
+        .map(|_| if random.percent(30) { 0 } else { random.edgy(-1000, 1000) })
+        .collect();
+    let flow = |factors: &[i64]| -> i64 {
+        let flow: i64 = factors.iter().zip(energies).map(|(factor, energy)| factor * energy).sum();
+        flow.div_euclid(1000) + i64::from(flow.rem_euclid(1000) > 0)
+    };
+    // A flow beyond the largest limit loses its greatest parts first.
+    while flow(&factors) > MOST {
+        for (factor, energy) in factors.iter_mut().zip(energies) {
+            if *factor > 0 && *energy > 0 {
+                *factor /= 2;
+            }
+        }
+    }
+    let least = flow(&factors).max(-MOST);
+    let limit = match random.between(0, 3) {
+        0 | 1 => least,
+        2 => (least + random.between(0, 5000)).min(MOST),
+        _ => random.edgy(least, MOST),
+    };
+    Flowgate { limit, factors }
+}
+
+/// What the schedule gives towards each curve, in one zone or (None) in all.
+fn provided(case: &Case, amounts: &[Kw], zone: Option<usize>) -> [Kw; CURVES] {
+    let mut sums = [0; CURVES];
+    for (index, (resource, standing)) in case.resources.iter().zip(standings(case)).enumerate() {
+        if zone.is_some_and(|zone| zone != resource.zone) {
+            continue;
+        }
+        let of = |product| amounts[index_of(index, product)];
+        let spinning = if standing.spinning { of(Product::Contingency) } else { 0 };
+        sums[0] += of(Product::Regulating) + of(Product::Contingency);
+        sums[1] += of(Product::Regulating) + spinning;
+        sums[2] += of(Product::Regulating);
+        sums[3] += of(Product::OnlineShortTerm) + of(Product::OfflineShortTerm);
+    }
+    sums
+}
+
+fn set_zone_requirements(random: &mut Random, case: &mut Case, amounts: &[Kw]) {
+    for zone in 1..=case.counts.zones {
+        let most = provided(case, amounts, Some(zone)).map(|sum| sum.min(2_000_000));
+        case.zones[zone - 1] = most.map(|sum| random.edgy(0, sum));
+    }
+}
+
+fn clear_curves(random: &mut Random, case: &Case, amounts: &mut [Kw]) {
+    let provided = provided(case, amounts, None);
+    for curve in Curve::ALL {
+        let most = provided[curve as usize].min(case.curve_width(curve));
+        amounts[curve as usize] = if random.percent(60) { most } else { random.edgy(0, most) };
+    }
+}
+
+/// Prices of every row: any will do for acceptance, good or bad.
+fn row_prices(random: &mut Random, case: &Case, scale: Scale) -> Vec<i64> {
+    let counts = case.counts;
+    let first_flowgate = 5 + 4 * counts.zones;
+    let last_flowgate = first_flowgate + counts.flowgates;
+    let highest = 1000 * scale.price;
+    let manner = random.between(0, 4);
+    let row_count = rows(case, &standings(case)).len();
+    (0..row_count)
+        .map(|index| {
+            let is_flowgate = (first_flowgate..last_flowgate).contains(&index);
+            let (least, most, usual) = match index {
+                0 => (-400_000_000, 400_000_000, highest),
+                _ if is_flowgate => (0, 400_000, scale.price),
+                _ => (0, 400_000_000, highest),
+            };
+            match manner {
+                0 => 0,
+                1 => random.edgy(least, most),
+                2 => most,
+                3 if index == 0 => 1000 * random.between(0, scale.price),
+                3 => 0,
+                _ if random.percent(50) => 0,
+                _ => random.between(0, usual),
+            }
+        })
+        .collect()
+}

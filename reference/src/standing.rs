@@ -1,0 +1,151 @@
+//! What is settled about a resource before any row: whether it is on-line, its
+//! limits for the interval, and the upper bounds of its five quantities.
+
+use crate::case::{flag, status, Case, Kind, Limits, Reserve, Resource};
+use crate::units::Kw;
+
+/// The five quantities of a resource, in the order of the certificate.
+#[derive(Clone, Copy, Debug, PartialEq, Eq)]
+pub enum Product {
+    Energy,
+    Regulating,
+    Contingency,
+    OnlineShortTerm,
+    OfflineShortTerm,
+}
+
+impl Product {
+    pub const ALL: [Product; 5] = [
+        Product::Energy,
+        Product::Regulating,
+        Product::Contingency,
+        Product::OnlineShortTerm,
+        Product::OfflineShortTerm,
+    ];
+}
+
+#[derive(Clone, Copy, Debug, PartialEq, Eq)]
+pub struct Standing {
+    pub online: bool,
+    /// MAX, MIN, HI and LO of the paper.
+    pub maximum: Kw,
+    pub minimum: Kw,
+    pub high: Kw,
+    pub low: Kw,
+    /// Whether its contingency reserve counts as spinning.
+    pub spinning: bool,
+    /// Upper bounds, in the order of `Product::ALL`.
+    pub bounds: [Kw; 5],
+}
+
+const INTERVAL_MINUTES: i64 = 5;
+const LEAST_CONVENTIONAL_OUTPUT: Kw = 500;
+const MINUTES_HELD_AFTER_TRIP: i64 = 15;
+
+pub fn standings(case: &Case) -> Vec<Standing> {
+    case.resources.iter().map(|resource| standing(case, resource)).collect()
+}
+
+pub fn standing(case: &Case, resource: &Resource) -> Standing {
+    if is_online(resource) {
+        online_standing(case, resource)
+    } else {
+        offline_standing(case, resource)
+    }
+}
+
+pub fn is_online(resource: &Resource) -> bool {
+    resource.breaker_closed
+        && match resource.kind {
+            Kind::Conventional => {
+                resource.output.abs() >= LEAST_CONVENTIONAL_OUTPUT
+                    && resource.minutes_since_trip > MINUTES_HELD_AFTER_TRIP
+            }
+            Kind::Intermittent => resource.has_status(status::COMMITTED) && resource.output > 0,
+            Kind::ExternalAsynchronous => {
+                resource.has_status(status::AVAILABLE)
+                    && resource.has_status(status::ACTIVE_SCHEDULE)
+            }
+        }
+}
+
+/// What a resource can ramp within a reserve's minutes, rounded down; the
+/// multiplier divides last.
+pub fn ramp(rate: Kw, reserve: &Reserve) -> Kw {
+    (rate * reserve.minutes * 1000).checked_div(reserve.multiplier).unwrap_or(0)
+}
+
+/// The largest share of a reserve's requirement, rounded down.
+pub fn share(reserve: &Reserve) -> Kw {
+    reserve.share * reserve.requirement / 1000
+}
+
+fn online_standing(case: &Case, resource: &Resource) -> Standing {
+    let maximum = limits_in_force(resource, flag::EMERGENCY_MAXIMUM).maximum;
+    let minimum = limits_in_force(resource, flag::EMERGENCY_MINIMUM).minimum;
+    let ramped_down = (resource.initial - INTERVAL_MINUTES * resource.ramp_down).max(0);
+    let low = if resource.has_flag(flag::SELF_SCHEDULED) {
+        ramped_down.max(resource.self_schedule)
+    } else {
+        ramped_down
+    };
+    let spinning = resource.has_flag(flag::SPINNING);
+    let supplemental = resource.has_status(status::ONLINE_SUPPLEMENTAL);
+    let reserve_bound = |offered: bool, reserve: &Reserve| {
+        if offered {
+            ramp(resource.ramp_rate, reserve).min(share(reserve)).min(maximum)
+        } else {
+            0
+        }
+    };
+    Standing {
+        online: true,
+        maximum,
+        minimum,
+        high: resource.initial + INTERVAL_MINUTES * resource.ramp_up,
+        low,
+        spinning,
+        bounds: [
+            resource.steps.iter().map(|step| step.width).sum(),
+            reserve_bound(resource.has_flag(flag::REGULATING), &case.regulating),
+            reserve_bound(spinning || supplemental, &case.contingency),
+            reserve_bound(resource.has_flag(flag::ONLINE_SHORT_TERM), &case.short_term),
+            0,
+        ],
+    }
+}
+
+/// Emergency limits if that end is released, else regulating ones if the
+/// resource regulates, else economic ones.
+fn limits_in_force(resource: &Resource, released: i64) -> Limits {
+    if resource.has_flag(released) {
+        resource.emergency
+    } else if resource.has_flag(flag::REGULATING) {
+        resource.regulating
+    } else {
+        resource.economic
+    }
+}
+
+fn offline_standing(case: &Case, resource: &Resource) -> Standing {
+    let most = resource.economic.maximum;
+    let contingency = if resource.has_flag(flag::OFFLINE_SUPPLEMENTAL) {
+        most.min(resource.offline_response).min(share(&case.contingency))
+    } else {
+        0
+    };
+    let short_term = if resource.has_flag(flag::OFFLINE_SHORT_TERM) {
+        most.min(resource.offline_short_term)
+    } else {
+        0
+    };
+    Standing {
+        online: false,
+        maximum: most,
+        minimum: 0,
+        high: most,
+        low: 0,
+        spinning: false,
+        bounds: [0, 0, contingency, 0, short_term],
+    }
+}
