@@ -1,0 +1,35 @@
+-- The worked interval and the refusals, by computation.
+use mathlib.Core.Path.{_≡_, refl}
+use lib.IntN.{pos}
+use Rattle.arith.specs.Sums.{minℤ, sumOf, totalOf, upto, all, across}
+use Rattle.market.specs.declared.Outcome.the-variants.{Accepted}
+use Rattle.market.specs.Case.{widthOf}
+use Rattle.market.specs.CaseFile.{caseOf, resourceAt}
+use Rattle.market.specs.CaseCheck.{lengthRight, versionRight, countsRight, caseSizeRight, reserveInRange, resourceInRange, flowgateInRange, fieldsInRange, stepsFollow, stepsRight, energyStepsRight, stepsRule, pairsOrdered, limitsOrdered}
+use Rattle.market.specs.Availability.{onLine}
+use Rattle.market.specs.Limits.{MAX, MIN, HI, LO}
+use Rattle.market.specs.UpperBounds.{quantities, RAMP, SHARE, onLineBound, serviceBound, upperBound}
+use Rattle.market.specs.Rows.{rows, none, one, less, entries, spins, inReserve, inLimit, coefficient, rightSide, leftSide, slack}
+use Rattle.market.specs.Certificate.{amountAt, priceAt, certificateOf}
+use Rattle.market.specs.Cost.{priced, quantityOf, servicePrice, offer, width, filled, part, cost}
+use Rattle.market.specs.Bound.{rowValue, netPrice, lowest, bound}
+use Rattle.market.specs.Prices.{LMP, supplementalPrice, spinningPrice, regulatingPrice, shortTermPrice}
+use Rattle.market.specs.Refusals.{firstFailing, firstOf}
+use Rattle.market.specs.Outcome.{caseGrounds, caseAnswer, sameCounts, certificateGrounds, valued, valuation, outcome, priceGrounds, chargeGrounds, priceAnswer, chargeAnswer}
+use Rattle.market.specs.Numbers.{fieldAt, fieldBytes, numbersAt, bytesOf, numbersFit, times, caseFields, certificateFields, fileOf, numbersOf, certificateFileGrounds, readCaseGrounds, readCertificateGrounds, readCase, readCertificate, countsInRange, fieldsFor, fileFor, listGrounds, writeCaseGrounds, writeCertificateGrounds, writeCase, writeCertificate}
+use Rattle.market.specs.Program.{digitsOn, decimal, spaced, resourceLine, zoneLine, refusalLine, report, printed}
+use Rattle.market.specs.Interval.{K, Q}
+use Rattle.market.specs.Worked.{intervals, refusals, same, AsSaid}
+
+pub worked : AsSaid intervals
+unfolding minℤ sumOf upto all across widthOf caseOf resourceAt lengthRight versionRight countsRight caseSizeRight reserveInRange resourceInRange flowgateInRange fieldsInRange stepsFollow stepsRight energyStepsRight stepsRule pairsOrdered limitsOrdered onLine MAX MIN HI LO quantities RAMP SHARE onLineBound serviceBound upperBound rows none one less entries spins inReserve inLimit coefficient rightSide leftSide slack amountAt priceAt certificateOf priced quantityOf servicePrice offer width filled part cost rowValue netPrice lowest bound LMP supplementalPrice spinningPrice regulatingPrice shortTermPrice firstFailing firstOf caseGrounds sameCounts certificateGrounds valuation outcome digitsOn decimal spaced resourceLine zoneLine refusalLine report printed same
+worked = tt
+
+pub each-refusal : AsSaid refusals
+unfolding minℤ sumOf totalOf upto all across widthOf caseOf resourceAt lengthRight versionRight countsRight caseSizeRight reserveInRange resourceInRange flowgateInRange fieldsInRange stepsFollow stepsRight energyStepsRight stepsRule pairsOrdered limitsOrdered onLine MAX MIN HI LO quantities RAMP SHARE onLineBound serviceBound upperBound rows none one less entries spins inReserve inLimit coefficient rightSide leftSide slack amountAt priceAt certificateOf priced quantityOf servicePrice offer width filled part cost rowValue netPrice lowest bound LMP supplementalPrice spinningPrice regulatingPrice shortTermPrice firstFailing firstOf caseGrounds caseAnswer sameCounts certificateGrounds valuation outcome priceGrounds chargeGrounds priceAnswer chargeAnswer fieldAt fieldBytes numbersAt bytesOf numbersFit times caseFields certificateFields fileOf numbersOf certificateFileGrounds readCaseGrounds readCertificateGrounds readCase readCertificate countsInRange fieldsFor fileFor listGrounds writeCaseGrounds writeCertificateGrounds writeCase writeCertificate digitsOn decimal spaced resourceLine zoneLine refusalLine report printed same
+each-refusal = tt
+
+-- so what is shown of accepted certificates is not shown of none
+pub K-accepted : outcome K Q ≡ Accepted (valued (pos 140000000000) (pos 140000000000) (pos 0))
+unfolding minℤ sumOf upto all across widthOf caseOf resourceAt lengthRight versionRight countsRight caseSizeRight reserveInRange resourceInRange flowgateInRange fieldsInRange stepsFollow stepsRight energyStepsRight stepsRule pairsOrdered limitsOrdered onLine MAX MIN HI LO quantities RAMP SHARE onLineBound serviceBound upperBound rows none one less entries spins inReserve inLimit coefficient rightSide leftSide slack amountAt priceAt certificateOf priced quantityOf servicePrice offer width filled part cost rowValue netPrice lowest bound firstFailing firstOf caseGrounds sameCounts certificateGrounds valuation outcome
+K-accepted = refl

@@ -1,0 +1,62 @@
+-- Every sum fits a signed 64-bit number (01, 'The case file': 'that is shown, not assumed'): of a valid case and a
+-- certificate whose prices are in range and whose quantities are within their bounds.
+use mathlib.Core.List.{List}
+use mathlib.Core.Path.{_≡_}
+use Prim.Native.Nat.{ℕ, _+_, _<_}
+use lib.Dec.{T}
+use lib.IntN.{ℤ, pos, natAbs, _*ℤ_}
+use Rattle.arith.specs.Sums.{sizeOf, Each, all, upto}
+use Rattle.market.specs.declared.Refusal.the-variants.{AboveBound}
+use Rattle.market.specs.Case.{Case}
+use Rattle.market.specs.CaseFile.{caseOf}
+use Rattle.market.specs.UpperBounds.{quantities, Schedule}
+use Rattle.market.specs.Rows.{rows, coefficient, rightSide, Flowgate, slack, leftSide}
+use Rattle.market.specs.Certificate.{Prices, certificateOf}
+use Rattle.market.specs.Cost.{priced, quantityOf, offer, width, part, cost}
+use Rattle.market.specs.Bound.{rowValue, netPrice, lowest, bound}
+use Rattle.market.specs.Charges.{gap, charges}
+use Rattle.market.specs.Prices.{LMP, zonePrices}
+use Rattle.market.specs.Refusals.{firstFailing, clear}
+use Rattle.market.specs.Outcome.{Valid, priceRight, withinBound}
+
+-- 2^63
+abbrev pub range64 : ℕ
+range64 = 9223372036854775808
+
+abbrev pub Fits64 : ℤ → Type 0
+Fits64 v = natAbs v < range64
+
+-- the terms' absolute values together: so every sum of some of the terms fits, in whatever order it is formed
+module _ {A : Type 0} where
+  abbrev pub TermsFit : (A → ℤ) → List A → Type 0
+  TermsFit f xs = sizeOf f xs < range64
+
+pub record SumsFit (c : Case) (x : Schedule) (y : Prices) : Type 0 where
+  -- cost
+  pub cost-terms : TermsFit (λ p. pos 1000 *ℤ (offer c p *ℤ pos (part c x p))) (priced c)
+  pub cost-fits : Fits64 (cost c x)
+  -- the left side of each row, and its slack
+  pub left-terms : Each (λ r. TermsFit (λ q. coefficient c r q *ℤ pos (x q)) (quantities c)) (rows c)
+  pub left-fits : Each (λ r. Fits64 (leftSide c x r)) (rows c)
+  pub slack-fits : Each (λ r. Fits64 (slack c x r)) (rows c)
+  -- each net price
+  pub net-terms : Each (λ p. TermsFit (λ r. y r *ℤ coefficient c r (quantityOf p)) (rows c)) (priced c)
+  pub net-fits : Each (λ p. Fits64 (netPrice c y p)) (priced c)
+  -- the bound: all of its terms together
+  pub product-terms : TermsFit (λ p. netPrice c y p *ℤ pos (width c p)) (priced c)
+  pub bound-terms : (sizeOf (λ r. y r *ℤ rightSide c r) (rows c) + sizeOf (lowest c y) (priced c)) < range64
+  pub bound-fits : Fits64 (bound c y)
+  pub gap-fits : Fits64 (gap c x y)
+  -- each charge
+  pub charge-fits : Each (λ v. Fits64 v) (charges c x y)
+  -- prices
+  pub lmp-terms : Each (λ i. TermsFit (λ f. y (Flowgate f) *ℤ c .shiftFactor f i) (upto (c .flowgates))) (upto (c .resources))
+  pub lmp-fits : Each (λ i. Fits64 (LMP c y i)) (upto (c .resources))
+  pub zone-prices-fit : Each (λ z. Each (λ v. Fits64 v) (zonePrices y z)) (upto (c .zones))
+
+-- past 12 and 13
+abbrev pub SumsFitTheorem : Type 0
+SumsFitTheorem =
+    (b q : List ℕ) → Valid b → T (all (priceRight (certificateOf q)) (rows (caseOf b))) →
+    firstFailing (withinBound (caseOf b) (certificateOf q)) AboveBound 1 (quantities (caseOf b)) ≡ clear →
+    SumsFit (caseOf b) (certificateOf q .amount) (certificateOf q .price)

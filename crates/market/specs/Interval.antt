@@ -1,0 +1,60 @@
+-- The worked interval K and its certificate Q, as bytes, and changes of them (01, 'Worked interval').
+use mathlib.Core.List.{List, [], _∷_, _++_}
+use Prim.Native.Nat.{ℕ, _+_, _-_}
+use lib.ListN.{length, take, drop, replicate}
+use Rattle.market.specs.Numbers.{u16Bytes, u32Bytes}
+
+abbrev pub zeros : ℕ → List ℕ
+zeros n = replicate n 0
+
+abbrev pub K : List ℕ
+K =
+    u32Bytes 336 ++ (1 ∷ 1 ∷ 1 ∷ 0 ∷ []) ++ u32Bytes 60000
+    ++ u16Bytes 1000 ++ u16Bytes 10 ++ u16Bytes 1000 ++ u16Bytes 10 ++ u16Bytes 1000 ++ u16Bytes 10
+    ++ zeros 6 ++ zeros 12 ++ zeros 128 ++ zeros 16
+    ++ (1 ∷ 1 ∷ 1 ∷ 0 ∷ 255 ∷ 0 ∷ []) ++ u32Bytes 50000
+    ++ u32Bytes 20000 ++ u32Bytes 100000 ++ zeros 16 ++ u32Bytes 3000 ++ u32Bytes 3000 ++ u32Bytes 3000 ++ u32Bytes 50000 ++ zeros 24
+    ++ u32Bytes 40000 ++ u32Bytes 2000 ++ u32Bytes 60000 ++ u32Bytes 3000 ++ zeros 64
+
+abbrev pub Q : List ℕ
+Q = u32Bytes 96 ++ (1 ∷ 1 ∷ 1 ∷ 0 ∷ []) ++ zeros 16 ++ u32Bytes 3000000 ++ zeros 16 ++ zeros 16 ++ u32Bytes 60000 ++ zeros 36
+
+-- b with these bytes from place p on
+abbrev pub change : ℕ → List ℕ → List ℕ → List ℕ
+change p new b = take p b ++ (new ++ drop (p + length new) b)
+
+-- -n in two's complement
+abbrev pub minus32 : ℕ → List ℕ
+minus32 n = u32Bytes (4294967296 - n)
+
+-- where K's resource begins
+abbrev pub resourceOfK : ℕ
+resourceOfK = 186
+
+abbrev pub demandTo : ℕ → List ℕ → List ℕ
+demandTo n = change 8 (u32Bytes n)
+
+abbrev pub outputTo : List ℕ → List ℕ → List ℕ
+outputTo = change (resourceOfK + 6)
+
+abbrev pub tripTo : ℕ → List ℕ → List ℕ
+tripTo n = change (resourceOfK + 4) (n ∷ [])
+
+abbrev pub kind2Committed : List ℕ → List ℕ
+kind2Committed b = change resourceOfK (2 ∷ []) (change (resourceOfK + 3) (1 ∷ []) b)
+
+abbrev pub energyTo : ℕ → List ℕ → List ℕ
+energyTo n = change 60 (u32Bytes n)
+
+abbrev pub row1To : ℕ → List ℕ → List ℕ
+row1To n = change 24 (u32Bytes n)
+
+abbrev pub highTo : ℕ → List ℕ → List ℕ
+highTo n = change 92 (u32Bytes n)
+
+-- one flowgate, its limit 0, its factor -60; and its price 200 cents
+abbrev pub gatedK : List ℕ
+gatedK = change 0 (u32Bytes 342) (change 7 (1 ∷ []) K) ++ (u32Bytes 0 ++ u16Bytes (65536 - 60))
+
+abbrev pub gatedQ : List ℕ
+gatedQ = change 0 (u32Bytes 100) (change 7 (1 ∷ []) (take 60 Q)) ++ (u32Bytes 200 ++ drop 60 Q)

@@ -1,0 +1,119 @@
+-- (a) to (l) of the worked interval, one list under one statement; and each refusal number on its own ground
+-- (01, 'Worked interval', 'How each operation refuses').
+use mathlib.Core.Bool.{Bool, true, false, cond, _&&_}
+use mathlib.Core.List.{List, [], _∷_, _++_, map}
+use Prim.Native.Nat.{ℕ, _+_}
+use lib.Dec.{T}
+use lib.Signed.{leZ}
+use lib.ListN.{take}
+use lib.IntN.{ℤ, pos}
+use Rattle.arith.specs.Sums.{all}
+use Rattle.market.specs.declared.CaseAnswer.{CaseAnswer}
+use Rattle.market.specs.declared.CheckResult.{CheckResult}
+use Rattle.market.specs.declared.Answer.{Answer}
+use Rattle.market.specs.declared.Count.{Count}
+use Rattle.market.specs.Case.{regulatingReserve}
+use Rattle.market.specs.CaseFile.{caseOf}
+use Rattle.market.specs.Availability.{onLine}
+use Rattle.market.specs.UpperBounds.{RAMP}
+use Rattle.market.specs.Certificate.{certificateOf}
+use Rattle.market.specs.Prices.{LMP}
+use Rattle.market.specs.Refusals.{caseNumberOf, resultOf, answerOf, countOf}
+use Rattle.market.specs.Outcome.{caseAnswer, outcome, priceAnswer, chargeAnswer}
+use Rattle.market.specs.Numbers.{u16Bytes, u32Bytes, caseNumbers, certificateNumbers, readCase, readCertificate, writeCase, writeCertificate}
+use Rattle.market.specs.Program.{printed}
+use Rattle.market.specs.Interval.{K, Q, zeros, change, minus32, resourceOfK, demandTo, outputTo, tripTo, kind2Committed, energyTo, row1To, highTo, gatedK, gatedQ}
+
+-- what the definitions give, and what 01 says
+pub record Example : Type 0 where
+  pub given : List ℤ
+  pub says : List ℤ
+
+abbrev pub bytesOf : List ℕ → List ℤ
+bytesOf = map pos
+
+-- refusal, place, cost, bound, gap
+abbrev pub figures : CheckResult → List ℤ
+figures r = pos (r .refusal) ∷ pos (r .place) ∷ r .cost ∷ r .bound ∷ r .gap ∷ []
+
+abbrev pub run : List ℕ → List ℕ → List ℤ
+run b q = figures (resultOf (outcome b q))
+
+abbrev pub accepted : ℕ → ℕ → ℕ → List ℤ
+accepted c b g = pos 0 ∷ pos 0 ∷ pos c ∷ pos b ∷ pos g ∷ []
+
+abbrev pub refused : ℕ → ℕ → List ℤ
+refused n p = pos n ∷ pos p ∷ pos 0 ∷ pos 0 ∷ pos 0 ∷ []
+
+-- 1 if the resource is on-line
+abbrev pub isOnLine : List ℕ → ℤ
+isOnLine b = cond (onLine (caseOf b .resource 0)) (pos 1) (pos 0)
+
+-- the text of (a), to the byte
+abbrev pub textOfK : List ℕ
+textOfK =
+    99 ∷ 111 ∷ 115 ∷ 116 ∷ 32 ∷ 49 ∷ 52 ∷ 48 ∷ 48 ∷ 48 ∷ 48 ∷ 48 ∷ 48 ∷ 48 ∷ 48 ∷ 48 ∷ 48 ∷ 10
+    ∷ 98 ∷ 111 ∷ 117 ∷ 110 ∷ 100 ∷ 32 ∷ 49 ∷ 52 ∷ 48 ∷ 48 ∷ 48 ∷ 48 ∷ 48 ∷ 48 ∷ 48 ∷ 48 ∷ 48 ∷ 48 ∷ 10
+    ∷ 103 ∷ 97 ∷ 112 ∷ 32 ∷ 48 ∷ 10
+    ∷ 49 ∷ 32 ∷ 49 ∷ 32 ∷ 54 ∷ 48 ∷ 48 ∷ 48 ∷ 48 ∷ 32 ∷ 48 ∷ 32 ∷ 48 ∷ 32 ∷ 48 ∷ 32 ∷ 48 ∷ 32 ∷ 51 ∷ 48 ∷ 48 ∷ 48 ∷ 48 ∷ 48 ∷ 48 ∷ 10
+    ∷ 122 ∷ 111 ∷ 110 ∷ 101 ∷ 32 ∷ 49 ∷ 32 ∷ 48 ∷ 32 ∷ 48 ∷ 32 ∷ 48 ∷ 32 ∷ 48 ∷ 10 ∷ []
+
+-- (a) to (l), in order
+abbrev pub intervals : List Example
+intervals =
+    record { given = bytesOf (printed (K ++ Q)); says = bytesOf textOfK }
+    ∷ record { given = run K (row1To 2500000 Q); says = accepted 140000000000 130000000000 10000000000 }
+    ∷ record { given = run K (row1To 3500000 Q); says = accepted 140000000000 120000000000 20000000000 }
+    ∷ record { given = run (demandTo 65000 K) (energyTo 65000 (row1To 3500000 (highTo 500000 Q))); says = accepted 155000000000 155000000000 0 }
+    ∷ record { given = run (demandTo 65001 K) (energyTo 65001 Q); says = refused 14 13 }
+    ∷ record { given = run K (energyTo 59999 Q); says = refused 14 1 }
+    ∷ record { given = run (outputTo (u32Bytes 499) K) Q; says = refused 13 5 }
+    ∷ record { given = isOnLine (outputTo (u32Bytes 500) K) ∷ isOnLine (outputTo (minus32 500) K) ∷ []; says = pos 1 ∷ pos 1 ∷ [] }
+    ∷ record { given = isOnLine (tripTo 15 K) ∷ isOnLine (tripTo 16 K) ∷ []; says = pos 0 ∷ pos 1 ∷ [] }
+    ∷ record { given = isOnLine (outputTo (u32Bytes 1) (kind2Committed K)) ∷ isOnLine (outputTo (u32Bytes 0) (kind2Committed K)) ∷ []; says = pos 1 ∷ pos 0 ∷ [] }
+    ∷ record { given = pos (let c = caseOf (change 16 (u16Bytes 700) K) in RAMP c regulatingReserve (c .resource 0)) ∷ []; says = pos 42857 ∷ [] }
+    ∷ record { given = LMP (caseOf gatedK) (certificateOf gatedQ .price) 0 ∷ []; says = pos 3012000 ∷ [] }
+    ∷ []
+
+abbrev pub numbered : CaseAnswer → List ℤ
+numbered a = pos (caseNumberOf a) ∷ []
+
+abbrev pub answered : Answer → List ℤ
+answered a = pos (a .refusal) ∷ []
+
+abbrev pub counted : Count → List ℤ
+counted a = pos (a .refusal) ∷ pos (a .count) ∷ []
+
+-- each number from 1 to 17
+abbrev pub refusals : List Example
+refusals =
+    record { given = numbered (caseAnswer K); says = pos 0 ∷ [] }
+    ∷ record { given = numbered (caseAnswer (take 169 K)); says = pos 1 ∷ [] }
+    ∷ record { given = numbered (caseAnswer (change 4 (2 ∷ []) K)); says = pos 2 ∷ [] }
+    ∷ record { given = numbered (caseAnswer (change 6 (9 ∷ []) K)); says = pos 3 ∷ [] }
+    ∷ record { given = numbered (caseAnswer (change 0 (u32Bytes 337) K ++ (0 ∷ []))); says = pos 4 ∷ [] }
+    ∷ record { given = numbered (caseAnswer (demandTo 128000001 K)); says = pos 5 ∷ [] }
+    ∷ record { given = numbered (caseAnswer (change (resourceOfK + 86) (u32Bytes 1999) K)); says = pos 6 ∷ [] }
+    ∷ record { given = numbered (caseAnswer (change (resourceOfK + 10) (u32Bytes 100001) K)); says = pos 7 ∷ [] }
+    ∷ record { given = run K (take 43 Q); says = refused 8 0 }
+    ∷ record { given = run K (change 4 (2 ∷ []) Q); says = refused 9 0 }
+    ∷ record { given = run K (change 5 (2 ∷ []) Q); says = refused 10 0 }
+    ∷ record { given = run K (change 0 (u32Bytes 97) Q ++ (0 ∷ [])); says = refused 11 0 }
+    ∷ record { given = run K (row1To 400000001 Q); says = refused 12 0 }
+    ∷ record { given = answered (answerOf (priceAnswer K Q 5)) ++ answered (answerOf (priceAnswer K Q 4)); says = pos 0 ∷ pos 15 ∷ [] }
+    ∷ record { given = answered (answerOf (chargeAnswer K Q 44)) ++ answered (answerOf (chargeAnswer K Q 43)); says = pos 0 ∷ pos 15 ∷ [] }
+    ∷ record { given = counted (countOf (readCase K 95)) ++ counted (countOf (readCase K 94)); says = pos 0 ∷ pos 95 ∷ pos 15 ∷ pos 0 ∷ [] }
+    ∷ record { given = counted (countOf (readCertificate Q 26)) ++ counted (countOf (readCertificate (change 5 (65 ∷ []) Q) 26)); says = pos 0 ∷ pos 26 ∷ pos 3 ∷ pos 0 ∷ [] }
+    ∷ record { given = counted (countOf (writeCase (caseNumbers K) 340)) ++ counted (countOf (writeCase (take 94 (caseNumbers K)) 340)); says = pos 0 ∷ pos 340 ∷ pos 16 ∷ pos 0 ∷ [] }
+    ∷ record { given = counted (countOf (writeCertificate (certificateNumbers Q) 99)) ++ counted (countOf (writeCertificate (pos 1 ∷ pos 1 ∷ []) 99)); says = pos 15 ∷ pos 0 ∷ pos 16 ∷ pos 0 ∷ [] }
+    ∷ record { given = bytesOf (printed (zeros 32769)); says = bytesOf (114 ∷ 101 ∷ 102 ∷ 117 ∷ 115 ∷ 101 ∷ 100 ∷ 32 ∷ 49 ∷ 55 ∷ 10 ∷ []) }
+    ∷ []
+
+unfoldable pub same : List ℤ → List ℤ → Bool
+same [] [] = true
+same [] (x ∷ xs) = false
+same (x ∷ xs) [] = false
+same (x ∷ xs) (y ∷ ys) = leZ x y && leZ y x && same xs ys
+
+abbrev pub AsSaid : List Example → Type 0
+AsSaid es = T (all (λ (e : Example). same (e .given) (e .says)) es)

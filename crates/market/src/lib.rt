@@ -1,0 +1,269 @@
+// The types of a dispatch interval: units, status bits and flags, refusals and answers.
+// The definitions of document 01 stand in specs/, what is proved of them in proofs/.
+ghost use mathlib.Core.Path.{_≡_};
+ghost use Rattle.market.specs.Bits.{committed, available, activeSchedule, onLineSupplemental, regulatingFlag, spinningFlag, offLineSupplementalFlag, offLineShortTermFlag, emergencyMaximumFlag, selfScheduledFlag, emergencyMinimumFlag, onLineShortTermFlag, statusOf};
+ghost use Rattle.market.specs.Refusals.{numberOf, placeOf};
+
+// Power, in kW.
+pub struct Kw(pub i64);
+
+// Offer, curve and flowgate prices, in cents per MWh.
+pub struct Cents(pub i64);
+
+// All other prices, in thousandths of a cent per MWh.
+pub struct Millicents(pub i64);
+
+// Cost, bound and charges. 'Grain' is document 01's own term: one thousandth of a cent per MWh times one kW.
+pub struct Grains(pub i64);
+
+// A resource's status bits; none above 8 is set.
+pub struct Status(pub u8);
+
+pub enum StatusRead {
+    Bits(Status),
+    OutOfRange,
+}
+
+impl Status {
+    pub const COMMITTED: u8 = 1;
+
+    pub const AVAILABLE: u8 = 2;
+
+    pub const ACTIVE_SCHEDULE: u8 = 4;
+
+    pub const ON_LINE_SUPPLEMENTAL: u8 = 8;
+
+    pub const MOST: u8 = 15;
+
+    pub fn of(bits: u8) -> StatusRead
+        ensures { λ r. ⌜ r ≡ statusOf bits ⌝ }
+    {
+        if bits > Status::MOST {
+            return StatusRead::OutOfRange;
+        }
+        StatusRead::Bits(Status(bits))
+    }
+
+    pub fn committed(self) -> bool
+        ensures { λ r. ⌜ r ≡ committed (self .0) ⌝ }
+    {
+        self.0 / Status::COMMITTED % 2 == 1
+    }
+
+    pub fn available(self) -> bool
+        ensures { λ r. ⌜ r ≡ available (self .0) ⌝ }
+    {
+        self.0 / Status::AVAILABLE % 2 == 1
+    }
+
+    pub fn active_schedule(self) -> bool
+        ensures { λ r. ⌜ r ≡ activeSchedule (self .0) ⌝ }
+    {
+        self.0 / Status::ACTIVE_SCHEDULE % 2 == 1
+    }
+
+    pub fn on_line_supplemental(self) -> bool
+        ensures { λ r. ⌜ r ≡ onLineSupplemental (self .0) ⌝ }
+    {
+        self.0 / Status::ON_LINE_SUPPLEMENTAL % 2 == 1
+    }
+}
+
+// A resource's flags; any byte.
+pub struct Flags(pub u8);
+
+impl Flags {
+    pub const REGULATING: u8 = 1;
+
+    pub const SPINNING: u8 = 2;
+
+    pub const OFF_LINE_SUPPLEMENTAL: u8 = 4;
+
+    pub const OFF_LINE_SHORT_TERM: u8 = 8;
+
+    pub const EMERGENCY_MAXIMUM: u8 = 16;
+
+    pub const SELF_SCHEDULED: u8 = 32;
+
+    pub const EMERGENCY_MINIMUM: u8 = 64;
+
+    pub const ON_LINE_SHORT_TERM: u8 = 128;
+
+    pub fn of(bits: u8) -> Flags
+        ensures { λ r. ⌜ r .0 ≡ bits ⌝ }
+    {
+        Flags(bits)
+    }
+
+    pub fn regulating(self) -> bool
+        ensures { λ r. ⌜ r ≡ regulatingFlag (self .0) ⌝ }
+    {
+        self.0 / Flags::REGULATING % 2 == 1
+    }
+
+    pub fn spinning(self) -> bool
+        ensures { λ r. ⌜ r ≡ spinningFlag (self .0) ⌝ }
+    {
+        self.0 / Flags::SPINNING % 2 == 1
+    }
+
+    pub fn off_line_supplemental(self) -> bool
+        ensures { λ r. ⌜ r ≡ offLineSupplementalFlag (self .0) ⌝ }
+    {
+        self.0 / Flags::OFF_LINE_SUPPLEMENTAL % 2 == 1
+    }
+
+    pub fn off_line_short_term(self) -> bool
+        ensures { λ r. ⌜ r ≡ offLineShortTermFlag (self .0) ⌝ }
+    {
+        self.0 / Flags::OFF_LINE_SHORT_TERM % 2 == 1
+    }
+
+    pub fn emergency_maximum(self) -> bool
+        ensures { λ r. ⌜ r ≡ emergencyMaximumFlag (self .0) ⌝ }
+    {
+        self.0 / Flags::EMERGENCY_MAXIMUM % 2 == 1
+    }
+
+    pub fn self_scheduled(self) -> bool
+        ensures { λ r. ⌜ r ≡ selfScheduledFlag (self .0) ⌝ }
+    {
+        self.0 / Flags::SELF_SCHEDULED % 2 == 1
+    }
+
+    pub fn emergency_minimum(self) -> bool
+        ensures { λ r. ⌜ r ≡ emergencyMinimumFlag (self .0) ⌝ }
+    {
+        self.0 / Flags::EMERGENCY_MINIMUM % 2 == 1
+    }
+
+    pub fn on_line_short_term(self) -> bool
+        ensures { λ r. ⌜ r ≡ onLineShortTermFlag (self .0) ⌝ }
+    {
+        self.0 / Flags::ON_LINE_SHORT_TERM % 2 == 1
+    }
+}
+
+// The grounds of refusal, in the order of their numbers; 13 with the quantity's place, 14 with the row's number.
+pub enum Refusal {
+    CaseLength,
+    CaseVersion,
+    Counts,
+    CaseSize,
+    FieldRange,
+    StepRule,
+    LimitPair,
+    CertificateLength,
+    CertificateVersion,
+    CountsDiffer,
+    CertificateSize,
+    PriceRange,
+    AboveBound(u32),
+    RowBroken(u32),
+    BufferShort,
+    NumberList,
+    InputLength,
+}
+
+impl Refusal {
+    pub fn number(self) -> u32
+        ensures { λ r. ⌜ r ≡ numberOf self ⌝ }
+    {
+        match self {
+            Refusal::CaseLength => 1,
+            Refusal::CaseVersion => 2,
+            Refusal::Counts => 3,
+            Refusal::CaseSize => 4,
+            Refusal::FieldRange => 5,
+            Refusal::StepRule => 6,
+            Refusal::LimitPair => 7,
+            Refusal::CertificateLength => 8,
+            Refusal::CertificateVersion => 9,
+            Refusal::CountsDiffer => 10,
+            Refusal::CertificateSize => 11,
+            Refusal::PriceRange => 12,
+            Refusal::AboveBound(_) => 13,
+            Refusal::RowBroken(_) => 14,
+            Refusal::BufferShort => 15,
+            Refusal::NumberList => 16,
+            Refusal::InputLength => 17,
+        }
+    }
+
+    pub fn place(self) -> u32
+        ensures { λ r. ⌜ r ≡ placeOf self ⌝ }
+    {
+        match self {
+            Refusal::CaseLength => 0,
+            Refusal::CaseVersion => 0,
+            Refusal::Counts => 0,
+            Refusal::CaseSize => 0,
+            Refusal::FieldRange => 0,
+            Refusal::StepRule => 0,
+            Refusal::LimitPair => 0,
+            Refusal::CertificateLength => 0,
+            Refusal::CertificateVersion => 0,
+            Refusal::CountsDiffer => 0,
+            Refusal::CertificateSize => 0,
+            Refusal::PriceRange => 0,
+            Refusal::AboveBound(place) => place,
+            Refusal::RowBroken(row) => row,
+            Refusal::BufferShort => 0,
+            Refusal::NumberList => 0,
+            Refusal::InputLength => 0,
+        }
+    }
+}
+
+// What a certificate check returns on success.
+pub struct Valuation {
+    pub cost: Grains,
+    pub bound: Grains,
+    pub gap: Grains,
+}
+
+// The answer of the case check.
+pub enum CaseAnswer {
+    Valid,
+    Refused(Refusal),
+}
+
+// The answer of the certificate check.
+pub enum Outcome {
+    Accepted(Valuation),
+    Refused(Refusal),
+}
+
+// The answer of the calls for prices and charges: all numbers are written, or none.
+pub enum Delivery {
+    Delivered,
+    Refused(Refusal),
+}
+
+// The answer of reading into numbers and writing from them: how many numbers or bytes were written.
+pub enum Transfer {
+    Written(u32),
+    Refused(Refusal),
+}
+
+// The answers as C hosts receive them. A refused one has every other field 0 but the place.
+#[repr(C)]
+pub struct Answer {
+    pub refusal: u32,
+    pub place: u32,
+}
+
+#[repr(C)]
+pub struct CheckResult {
+    pub refusal: u32,
+    pub place: u32,
+    pub cost: i64,
+    pub bound: i64,
+    pub gap: i64,
+}
+
+#[repr(C)]
+pub struct Count {
+    pub refusal: u32,
+    pub count: u32,
+}
