@@ -33,28 +33,48 @@ impl Pair {
     }
 }
 
-/// How large the figures of a case may become.
+/// How large the figures of a case may become, and how often they stand at
+/// the end of what is allowed them.
 #[derive(Clone, Copy, Debug, PartialEq, Eq)]
 pub struct Scale {
     /// The largest limit of a resource.
     pub power: Kw,
-    /// The widest step of a demand curve.
+    /// The widest step of a demand curve, and how many it may have.
     pub curve_width: Kw,
+    pub curve_steps: usize,
     pub ramp: Kw,
     pub price: Cents,
+    /// The chance, in percent, that a figure is drawn at an end.
+    pub edges: i64,
 }
 
 impl Scale {
     /// Up to the ends of every range.
-    pub const FULL: Scale =
-        Scale { power: 2_000_000, curve_width: 8_000_000, ramp: 400_000, price: 400_000 };
+    pub const FULL: Scale = Scale {
+        power: 2_000_000,
+        curve_width: 8_000_000,
+        curve_steps: CURVE_STEPS,
+        ramp: 400_000,
+        price: 400_000,
+        edges: 15,
+    };
     /// Power stations of a common size.
     pub const COMMON: Scale =
-        Scale { power: 400_000, curve_width: 600_000, ramp: 8_000, price: 9_000 };
+        Scale { power: 400_000, curve_width: 600_000, ramp: 8_000, price: 9_000, ..Scale::FULL };
     /// A handful of kW, so that figures meet and edges are hit often.
-    pub const SMALL: Scale = Scale { power: 60, curve_width: 40, ramp: 6, price: 9 };
+    pub const SMALL: Scale = Scale { power: 60, curve_width: 40, ramp: 6, price: 9, ..Scale::FULL };
     /// So few kW that every schedule can be written down.
-    pub const TINY: Scale = Scale { power: 3, curve_width: 1, ramp: 1, price: 9 };
+    pub const TINY: Scale =
+        Scale { power: 3, curve_width: 2, curve_steps: 1, ramp: 1, price: 9, edges: 15 };
+
+    /// From `least` to `most`, now and then one of the two.
+    fn draw(self, random: &mut Random, least: i64, most: i64) -> i64 {
+        if random.percent(self.edges) {
+            random.pick(&[least, most.max(least)])
+        } else {
+            random.between(least, most)
+        }
+    }
 }
 
 /// Counts of every size, the ends of their ranges among them.
@@ -80,7 +100,8 @@ pub fn random_pair(random: &mut Random) -> Pair {
 /// An accepted pair of the given size and any scale.
 pub fn pair_of_counts(random: &mut Random, counts: Counts) -> Pair {
     let scale = random.pick(&[Scale::FULL, Scale::COMMON, Scale::COMMON, Scale::SMALL]);
-    pair_of_scale(random, counts, scale)
+    let edges = random.pick(&[4, 15, 40]);
+    pair_of_scale(random, counts, Scale { edges, ..scale })
 }
 
 /// An accepted pair of the given size and scale.
@@ -93,9 +114,10 @@ pub fn pair_of_scale(random: &mut Random, counts: Counts, scale: Scale) -> Pair 
         amounts.extend(its_amounts);
     }
     case.demand = energies(&amounts).iter().sum();
-    case.flowgates = (0..counts.flowgates).map(|_| flowgate(random, &energies(&amounts))).collect();
-    set_zone_requirements(random, &mut case, &amounts);
-    clear_curves(random, &case, &mut amounts);
+    case.flowgates =
+        (0..counts.flowgates).map(|_| flowgate(random, &energies(&amounts), scale)).collect();
+    set_zone_requirements(random, &mut case, &amounts, scale);
+    clear_curves(random, &case, &mut amounts, scale);
     let row_prices = row_prices(random, &case, scale);
     Pair { case, certificate: Certificate { counts, amounts, row_prices } }
 }
@@ -119,23 +141,23 @@ fn reserve(random: &mut Random, scale: Scale) -> Reserve {
     let multiplier = match random.between(0, 4) {
         0 => 1000,
         1 => 700,
-        _ => random.edgy(1, 5000),
+        _ => scale.draw(random, 1, 5000),
     };
     Reserve {
         multiplier,
-        minutes: random.edgy(1, 60),
-        share: random.edgy(0, 1000),
-        requirement: random.edgy(0, 4 * scale.curve_width.min(2_000_000)),
+        minutes: scale.draw(random, 1, 60),
+        share: scale.draw(random, 0, 1000),
+        requirement: scale.draw(random, 0, 4 * scale.curve_width.min(2_000_000)),
     }
 }
 
 fn curve(random: &mut Random, scale: Scale) -> [Step; CURVE_STEPS] {
-    let used = random.edgy(0, CURVE_STEPS as i64) as usize;
-    let mut prices: Vec<Cents> = (0..used).map(|_| random.edgy(0, scale.price)).collect();
+    let used = scale.draw(random, 0, scale.curve_steps as i64) as usize;
+    let mut prices: Vec<Cents> = (0..used).map(|_| scale.draw(random, 0, scale.price)).collect();
     prices.sort_unstable_by(|one, other| other.cmp(one));
     let mut steps = [Step::default(); CURVE_STEPS];
     for (step, price) in steps.iter_mut().zip(prices) {
-        *step = Step { width: random.edgy(1, scale.curve_width), price };
+        *step = Step { width: scale.draw(random, 1, scale.curve_width), price };
     }
     steps
 }
@@ -147,23 +169,23 @@ fn resource_with_schedule(random: &mut Random, case: &Case, scale: Scale) -> (Re
     if !is_online(&resource) {
         resource.steps = energy_steps(random, 0, scale);
         let standing = standing(case, &resource);
-        return (resource, offline_amounts(random, &standing));
+        return (resource, offline_amounts(random, &standing, scale));
     }
     let mut before = standing(case, &resource);
     if before.minimum > before.maximum {
         drop_minima(&mut resource, before.maximum);
         before = standing(case, &resource);
     }
-    let energy = random.edgy(before.minimum, before.maximum);
+    let energy = scale.draw(random, before.minimum, before.maximum);
     resource.steps = energy_steps(random, energy, scale);
     let lowest = (energy - 5 * resource.ramp_up).max(0);
     let highest = (energy + 5 * resource.ramp_down).min(2_000_000);
-    resource.initial = random.edgy(lowest, highest);
+    resource.initial = scale.draw(random, lowest, highest);
     if resource.has_flag(flag::SELF_SCHEDULED) {
-        resource.self_schedule = random.edgy(0, energy);
+        resource.self_schedule = scale.draw(random, 0, energy);
     }
     let standing = standing(case, &resource);
-    let amounts = online_amounts(random, &standing, energy);
+    let amounts = online_amounts(random, &standing, energy, scale);
     (resource, amounts)
 }
 
@@ -184,7 +206,7 @@ fn loose_resource(random: &mut Random, counts: Counts, scale: Scale) -> Resource
             Kind::Intermittent,
             Kind::ExternalAsynchronous,
         ]),
-        zone: random.edgy(1, counts.zones as i64) as usize,
+        zone: scale.draw(random, 1, counts.zones as i64) as usize,
         breaker_closed: random.percent(85),
         status: status_bits(random),
         minutes_since_trip: random.pick(&[255, 255, 255, 255, 255, 0, 15, 16, 254]),
@@ -193,16 +215,16 @@ fn loose_resource(random: &mut Random, counts: Counts, scale: Scale) -> Resource
         economic: limits(random, scale),
         regulating: limits(random, scale),
         emergency: limits(random, scale),
-        ramp_up: random.edgy(0, scale.ramp),
-        ramp_down: random.edgy(0, scale.ramp),
-        ramp_rate: random.edgy(0, scale.ramp),
-        initial: random.edgy(0, scale.power),
-        offline_response: random.edgy(0, scale.power),
-        offline_short_term: random.edgy(0, scale.power),
-        self_schedule: random.edgy(0, scale.power),
-        regulating_price: random.edgy(0, scale.price),
-        contingency_price: random.edgy(0, scale.price),
-        offline_short_term_price: random.edgy(0, scale.price),
+        ramp_up: scale.draw(random, 0, scale.ramp),
+        ramp_down: scale.draw(random, 0, scale.ramp),
+        ramp_rate: scale.draw(random, 0, scale.ramp),
+        initial: scale.draw(random, 0, scale.power),
+        offline_response: scale.draw(random, 0, scale.power),
+        offline_short_term: scale.draw(random, 0, scale.power),
+        self_schedule: scale.draw(random, 0, scale.power),
+        regulating_price: scale.draw(random, 0, scale.price),
+        contingency_price: scale.draw(random, 0, scale.price),
+        offline_short_term_price: scale.draw(random, 0, scale.price),
         steps: [Step::default(); ENERGY_STEPS],
     }
 }
@@ -228,11 +250,11 @@ fn output(random: &mut Random, scale: Scale) -> Kw {
 }
 
 fn limits(random: &mut Random, scale: Scale) -> Limits {
-    let maximum = random.edgy(0, scale.power);
+    let maximum = scale.draw(random, 0, scale.power);
     let minimum = match random.between(0, 2) {
         0 => 0,
         1 => random.between(0, maximum / 3),
-        _ => random.edgy(0, maximum),
+        _ => scale.draw(random, 0, maximum),
     };
     Limits { minimum, maximum }
 }
@@ -241,8 +263,8 @@ fn limits(random: &mut Random, scale: Scale) -> Limits {
 fn energy_steps(random: &mut Random, energy: Kw, scale: Scale) -> [Step; ENERGY_STEPS] {
     let total = match random.between(0, 3) {
         0 => energy,
-        1 => 2_000_000.min(energy + random.between(0, 20)),
-        _ => random.edgy(energy, scale.power.max(energy)),
+        1 => 2_000_000.min(energy + random.between(0, scale.power.min(20))),
+        _ => scale.draw(random, energy, scale.power.max(energy)),
     };
     let used = random.between(1, ENERGY_STEPS as i64).min(total);
     let mut cuts: Vec<Kw> = (1..used).map(|_| random.between(1, (total - 1).max(1))).collect();
@@ -261,24 +283,24 @@ fn energy_steps(random: &mut Random, energy: Kw, scale: Scale) -> [Step; ENERGY_
 
 fn energy_price(random: &mut Random, scale: Scale) -> Cents {
     if random.percent(12) {
-        random.edgy(-scale.price, scale.price)
+        scale.draw(random, -scale.price, scale.price)
     } else {
         random.between(scale.price / 5, scale.price)
     }
 }
 
-fn offline_amounts(random: &mut Random, standing: &Standing) -> [Kw; 5] {
+fn offline_amounts(random: &mut Random, standing: &Standing, scale: Scale) -> [Kw; 5] {
     let [_, _, contingency, _, short_term] = standing.bounds;
-    [0, 0, random.edgy(0, contingency), 0, random.edgy(0, short_term)]
+    [0, 0, scale.draw(random, 0, contingency), 0, scale.draw(random, 0, short_term)]
 }
 
-fn online_amounts(random: &mut Random, standing: &Standing, energy: Kw) -> [Kw; 5] {
+fn online_amounts(random: &mut Random, standing: &Standing, energy: Kw, scale: Scale) -> [Kw; 5] {
     let [_, regulating, contingency, short_term, _] = standing.bounds;
     let above = standing.maximum - energy;
     let below = energy - standing.minimum;
-    let regulating = random.edgy(0, regulating.min(above).min(below));
-    let contingency = random.edgy(0, contingency.min(above - regulating));
-    let short_term = random.edgy(0, short_term.min(above));
+    let regulating = scale.draw(random, 0, regulating.min(above).min(below));
+    let contingency = scale.draw(random, 0, contingency.min(above - regulating));
+    let short_term = scale.draw(random, 0, short_term.min(above));
     [energy, regulating, contingency, short_term, 0]
 }
 
@@ -287,11 +309,11 @@ fn energies(amounts: &[Kw]) -> Vec<Kw> {
 }
 
 /// A flowgate that the energies keep, now and then with nothing to spare.
-fn flowgate(random: &mut Random, energies: &[Kw]) -> Flowgate {
+fn flowgate(random: &mut Random, energies: &[Kw], scale: Scale) -> Flowgate {
     const MOST: Kw = 20_000_000;
     let mut factors: Vec<i64> = energies
         .iter()
-        .map(|_| if random.percent(30) { 0 } else { random.edgy(-1000, 1000) })
+        .map(|_| if random.percent(30) { 0 } else { scale.draw(random, -1000, 1000) })
         .collect();
     let flow = |factors: &[i64]| -> i64 {
         let flow: i64 = factors.iter().zip(energies).map(|(factor, energy)| factor * energy).sum();
@@ -306,10 +328,10 @@ fn flowgate(random: &mut Random, energies: &[Kw]) -> Flowgate {
         }
     }
     let least = flow(&factors).max(-MOST);
-    let limit = match random.between(0, 3) {
-        0 | 1 => least,
-        2 => (least + random.between(0, 5000)).min(MOST),
-        _ => random.edgy(least, MOST),
+    let limit = match random.between(0, 2) {
+        0 => least,
+        1 => (least + random.between(0, scale.power)).min(MOST),
+        _ => scale.draw(random, least, MOST),
     };
     Flowgate { limit, factors }
 }
@@ -331,18 +353,19 @@ fn provided(case: &Case, amounts: &[Kw], zone: Option<usize>) -> [Kw; CURVES] {
     sums
 }
 
-fn set_zone_requirements(random: &mut Random, case: &mut Case, amounts: &[Kw]) {
+fn set_zone_requirements(random: &mut Random, case: &mut Case, amounts: &[Kw], scale: Scale) {
     for zone in 1..=case.counts.zones {
         let most = provided(case, amounts, Some(zone)).map(|sum| sum.min(2_000_000));
-        case.zones[zone - 1] = most.map(|sum| random.edgy(0, sum));
+        case.zones[zone - 1] = most.map(|sum| scale.draw(random, 0, sum));
     }
 }
 
-fn clear_curves(random: &mut Random, case: &Case, amounts: &mut [Kw]) {
+fn clear_curves(random: &mut Random, case: &Case, amounts: &mut [Kw], scale: Scale) {
     let provided = provided(case, amounts, None);
     for curve in Curve::ALL {
         let most = provided[curve as usize].min(case.curve_width(curve));
-        amounts[curve as usize] = if random.percent(60) { most } else { random.edgy(0, most) };
+        amounts[curve as usize] =
+            if random.percent(60) { most } else { scale.draw(random, 0, most) };
     }
 }
 

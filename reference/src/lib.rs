@@ -11,6 +11,7 @@ pub mod case_check;
 pub mod certificate;
 pub mod command;
 pub mod damage;
+pub mod enumerate;
 pub mod generate;
 pub mod layout;
 pub mod operations;

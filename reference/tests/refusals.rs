@@ -10,7 +10,7 @@ use nostwier_reference::layout::{case_fields, certificate_fields, Counts};
 use nostwier_reference::random::Random;
 use nostwier_reference::{
     charges, check_case, check_certificate, prices, program, read_case, read_certificate, worked,
-    write_case, write_certificate, Failure, Refusal,
+    write_case, write_certificate, Refusal,
 };
 use std::collections::BTreeSet;
 
