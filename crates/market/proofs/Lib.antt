@@ -1,1 +1,11 @@
 pub mod Computed
+pub mod Grounds
+pub mod Refused
+pub mod Steps
+pub mod Entries
+pub mod NetPrices
+pub mod RowSlacks
+pub mod CaseProgramme
+pub mod Counts
+pub mod Accepted
+pub mod Shown

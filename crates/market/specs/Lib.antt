@@ -21,5 +21,6 @@ pub mod Worked
 pub mod Promise
 pub mod RefusedExactly
 pub mod InWords
+pub mod WrongTurns
 pub mod Fits
 pub mod RoundTrips

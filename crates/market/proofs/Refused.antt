@@ -1,0 +1,91 @@
+-- Each operation is refused exactly on the first ground that holds.
+use mathlib.Core.Path.{_≡_, refl, sym, _∙_, ap}
+use mathlib.Core.List.{List}
+use Prim.Native.Nat.{ℕ}
+use lib.ListN.{length}
+use Rattle.market.specs.declared.CaseAnswer.{CaseAnswer}
+use Rattle.market.specs.declared.CaseAnswer.the-variants as C
+use Rattle.market.specs.declared.Valuation.{Valuation}
+use Rattle.market.specs.declared.Outcome.{Outcome}
+use Rattle.market.specs.declared.Outcome.the-variants as O
+use Rattle.market.specs.declared.Delivery.{Delivery}
+use Rattle.market.specs.declared.Delivery.the-variants as D
+use Rattle.market.specs.declared.Transfer.{Transfer}
+use Rattle.market.specs.declared.Transfer.the-variants as W
+use Rattle.market.specs.CaseFile.{caseOf}
+use Rattle.market.specs.Certificate.{certificateOf}
+use Rattle.market.specs.Refusals.{Finding, clear, holds, firstOf, caseAnswerOf, outcomeOf, deliveryOf, transferOf}
+use Rattle.market.specs.Outcome.{caseGrounds, caseAnswer, grounds, valuation, outcome, priceGrounds, priceAnswer, chargeGrounds, chargeAnswer}
+use Rattle.market.specs.Numbers.{caseNumbers, certificateNumbers, caseFile, certificateFile, readCaseGrounds, readCase, readCertificateGrounds, readCertificate, writeCaseGrounds, writeCase, writeCertificateGrounds, writeCertificate}
+use Rattle.market.specs.Program.{printed, printedOf}
+use Rattle.market.specs.RefusedExactly.{Exactly, RefusedExactly}
+use Rattle.market.proofs.Grounds.{none-holds, all-clear, first-holds, holds-first}
+
+-- an answer from which the finding can be told
+module _ {A : Type 0} (answerOf : Finding → A) (findingIn : A → Finding) (told : (f : Finding) → findingIn (answerOf f) ≡ f) where
+  same-finding : (f g : Finding) → answerOf f ≡ answerOf g → f ≡ g
+  same-finding f g e = sym (told f) ∙ (ap findingIn e ∙ told g)
+
+  exactly : (gs : List Finding) → Exactly gs (answerOf (firstOf gs)) (λ r. answerOf (holds r)) (answerOf clear)
+  exactly gs =
+      record {
+        refused-exactly = λ r. ((λ e. first-holds gs r (same-finding (firstOf gs) (holds r) e)), (λ h. ap answerOf (holds-first gs r h)));
+        success-exactly = ((λ e. none-holds gs (same-finding (firstOf gs) clear e)), (λ h. ap answerOf (all-clear gs h)));
+      }
+
+in-case-answer : CaseAnswer → Finding
+in-case-answer C.Valid = clear
+in-case-answer (C.Refused r) = holds r
+
+of-case-answer : (f : Finding) → in-case-answer (caseAnswerOf f) ≡ f
+unfolding in-case-answer
+of-case-answer clear = refl
+of-case-answer (holds r) = refl
+
+in-outcome : Outcome → Finding
+in-outcome (O.Accepted v) = clear
+in-outcome (O.Refused r) = holds r
+
+of-outcome : (v : Valuation) (f : Finding) → in-outcome (outcomeOf v f) ≡ f
+unfolding in-outcome
+of-outcome v clear = refl
+of-outcome v (holds r) = refl
+
+in-delivery : Delivery → Finding
+in-delivery D.Delivered = clear
+in-delivery (D.Refused r) = holds r
+
+of-delivery : (f : Finding) → in-delivery (deliveryOf f) ≡ f
+unfolding in-delivery
+of-delivery clear = refl
+of-delivery (holds r) = refl
+
+in-transfer : Transfer → Finding
+in-transfer (W.Written n) = clear
+in-transfer (W.Refused r) = holds r
+
+of-transfer : (n : ℕ) (f : Finding) → in-transfer (transferOf n f) ≡ f
+unfolding in-transfer
+of-transfer n clear = refl
+of-transfer n (holds r) = refl
+
+deliveries : (gs : List Finding) → Exactly gs (deliveryOf (firstOf gs)) D.Refused D.Delivered
+deliveries = exactly deliveryOf in-delivery of-delivery
+
+transfers : (n : ℕ) (gs : List Finding) → Exactly gs (transferOf n (firstOf gs)) W.Refused (W.Written n)
+transfers n = exactly (transferOf n) in-transfer (of-transfer n)
+
+pub refused-exactly : RefusedExactly
+unfolding caseAnswer outcome priceAnswer chargeAnswer readCase readCertificate writeCase writeCertificate printed
+refused-exactly =
+    record {
+      case-check = λ b. exactly caseAnswerOf in-case-answer of-case-answer (caseGrounds b);
+      certificate-check = λ b q. let v = valuation (caseOf b) (certificateOf q) in exactly (outcomeOf v) in-outcome (of-outcome v) (grounds b q);
+      price-call = λ b q n. deliveries (priceGrounds b q n);
+      charge-call = λ b q n. deliveries (chargeGrounds b q n);
+      case-reading = λ b n. transfers (length (caseNumbers b)) (readCaseGrounds b n);
+      certificate-reading = λ q n. transfers (length (certificateNumbers q)) (readCertificateGrounds q n);
+      case-writing = λ vs n. transfers (length (caseFile vs)) (writeCaseGrounds vs n);
+      certificate-writing = λ vs n. transfers (length (certificateFile vs)) (writeCertificateGrounds vs n);
+      program = λ input r e. ap (printedOf input) e;
+    }
