@@ -84,7 +84,14 @@ answered a = pos (a .refusal) ∷ []
 abbrev pub counted : Count → List ℤ
 counted a = pos (a .refusal) ∷ pos (a .count) ∷ []
 
--- each number from 1 to 17
+-- a case with 5, 6 and 7, and with 6 and 7
+abbrev pub sixAndSeven : List ℕ
+sixAndSeven = change (resourceOfK + 86) (u32Bytes 1999) (change (resourceOfK + 10) (u32Bytes 100001) K)
+
+abbrev pub fiveToSeven : List ℕ
+fiveToSeven = demandTo 128000001 sixAndSeven
+
+-- each number from 1 to 17 on its own ground, and the first of several
 abbrev pub refusals : List Example
 refusals =
     record { given = numbered (caseAnswer K); says = pos 0 ∷ [] }
@@ -95,11 +102,14 @@ refusals =
     ∷ record { given = numbered (caseAnswer (demandTo 128000001 K)); says = pos 5 ∷ [] }
     ∷ record { given = numbered (caseAnswer (change (resourceOfK + 86) (u32Bytes 1999) K)); says = pos 6 ∷ [] }
     ∷ record { given = numbered (caseAnswer (change (resourceOfK + 10) (u32Bytes 100001) K)); says = pos 7 ∷ [] }
+    ∷ record { given = numbered (caseAnswer fiveToSeven) ++ numbered (caseAnswer sixAndSeven); says = pos 5 ∷ pos 6 ∷ [] }
     ∷ record { given = run K (take 43 Q); says = refused 8 0 }
     ∷ record { given = run K (change 4 (2 ∷ []) Q); says = refused 9 0 }
     ∷ record { given = run K (change 5 (2 ∷ []) Q); says = refused 10 0 }
     ∷ record { given = run K (change 0 (u32Bytes 97) Q ++ (0 ∷ [])); says = refused 11 0 }
     ∷ record { given = run K (row1To 400000001 Q); says = refused 12 0 }
+    ∷ record { given = run K (change 24 (minus32 400000001) (energyTo 100001 Q)); says = refused 12 0 }
+    ∷ record { given = run K (change 24 (minus32 400000000) (energyTo 100001 Q)); says = refused 13 5 }
     ∷ record { given = answered (answerOf (priceAnswer K Q 5)) ++ answered (answerOf (priceAnswer K Q 4)); says = pos 0 ∷ pos 15 ∷ [] }
     ∷ record { given = answered (answerOf (chargeAnswer K Q 44)) ++ answered (answerOf (chargeAnswer K Q 43)); says = pos 0 ∷ pos 15 ∷ [] }
     ∷ record { given = counted (countOf (readCase K 95)) ++ counted (countOf (readCase K 94)); says = pos 0 ∷ pos 95 ∷ pos 15 ∷ pos 0 ∷ [] }
