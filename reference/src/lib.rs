@@ -20,6 +20,7 @@ pub mod program;
 pub mod random;
 pub mod refusal;
 pub mod rows;
+pub mod solve;
 pub mod standing;
 pub mod units;
 pub mod worked;

@@ -43,7 +43,7 @@ fn neighbour(random: &mut Random, accepted: &Accepted, amounts: &[i64]) -> Vec<i
     }
     if random.percent(60) {
         let index = random.index(other.len());
-        let is_energy = index >= 4 && (index - 4) % 5 == 0;
+        let is_energy = index >= 4 && (index - 4).is_multiple_of(5);
         if !is_energy {
             other[index] = random.between(0, 2 * other[index] + 10);
         }

@@ -1,6 +1,8 @@
 //! What several tests share.
 #![allow(dead_code)]
 
+pub mod solving;
+
 use nostwier_reference::generate::Pair;
 use nostwier_reference::{check_certificate, Failure, Refusal, Totals};
 

@@ -1,0 +1,157 @@
+//! What can be said of `nostwier-solve` without a solver: the programme it
+//! writes, the rounding, and what it tells of wrong use.
+
+use nostwier_reference::certificate::{first_above_bound, first_broken};
+use nostwier_reference::generate::{pair_of_scale, Scale};
+use nostwier_reference::layout::Counts;
+use nostwier_reference::random::Random;
+use nostwier_reference::solve::programme::Programme;
+use nostwier_reference::solve::{mps, rounding};
+use nostwier_reference::standing::standings;
+use nostwier_reference::worked;
+use std::path::{Path, PathBuf};
+use std::process::{Command, Output};
+
+fn scratch(name: &str) -> PathBuf {
+    let path = PathBuf::from(env!("CARGO_TARGET_TMPDIR")).join(name);
+    let _ = std::fs::remove_dir_all(&path);
+    std::fs::create_dir_all(&path).expect("made");
+    path
+}
+
+fn run(directory: &Path, arguments: &[&str]) -> Output {
+    Command::new(env!("CARGO_BIN_EXE_nostwier-solve"))
+        .args(arguments)
+        .current_dir(directory)
+        .env("PATH", directory)
+        .output()
+        .expect("the program starts")
+}
+
+/// The one line told of a failure, with the given exit status.
+fn told(directory: &Path, arguments: &[&str], status: i32) -> String {
+    let output = run(directory, arguments);
+    assert_eq!(output.status.code(), Some(status), "{arguments:?}");
+    assert_eq!(output.stdout, b"");
+    let line = String::from_utf8(output.stderr).expect("text");
+    assert_eq!(line.lines().count(), 1, "{arguments:?}: {line}");
+    line
+}
+
+#[test]
+fn the_programme_of_k_has_its_rows_and_costs() {
+    let text = mps::text(&Programme::of_case(&worked::pair().case), false);
+    for line in [
+        " E  R1",
+        " G  R14",
+        "    C1        COST           2000000",
+        "    C2        COST           3000000",
+        "    C2        R1                   1",
+        "    C2        R13                 -1",
+        "    RHS       R1               60000",
+        "    RHS       R10            -100000",
+        "    RHS       R13             -65000",
+        "    RHS       R14              35000",
+        " UP BND       C2               60000",
+        " FX BND       C3                   0",
+        "ENDATA",
+    ] {
+        assert!(text.lines().any(|other| other == line), "no line '{line}' in\n{text}");
+    }
+    assert!(!text.contains("INTORG"));
+    assert!(mps::text(&Programme::of_case(&worked::pair().case), true).contains("INTORG"));
+}
+
+#[test]
+fn prices_are_rounded_into_their_range() {
+    let counts = Counts { resources: 1, zones: 1, flowgates: 1 };
+    let pair = pair_of_scale(&mut Random::new(51), counts, Scale::COMMON);
+    let programme = Programme::of_case(&pair.case);
+    let mut duals = vec![0.0; counts.row_count()];
+    duals[0] = -4.000_000_06e8;
+    duals[1] = 4.000_000_06e8;
+    duals[2] = -0.6;
+    duals[3] = 2.5;
+    duals[9] = 400_000.6;
+    let prices = programme.whole_prices(&duals);
+    assert_eq!(prices[..4], [-400_000_000, 400_000_000, 0, 3]);
+    assert_eq!(prices[9], 400_000);
+}
+
+#[test]
+fn a_schedule_a_little_off_is_repaired() {
+    let mut random = Random::new(52);
+    let mut broken = 0;
+    let mut repaired = 0;
+    for _ in 0..60 {
+        let counts = Counts {
+            resources: random.between(2, 20) as usize,
+            zones: random.between(1, 4) as usize,
+            flowgates: random.between(0, 4) as usize,
+        };
+        let pair = pair_of_scale(&mut random, counts, Scale::COMMON);
+        let programme = Programme::of_case(&pair.case);
+        let mut amounts = pair.certificate.amounts;
+        for (amount, bound) in amounts.iter_mut().zip(&programme.bounds) {
+            *amount = (*amount + random.between(-1, 1)).clamp(0, *bound);
+        }
+        broken += usize::from(first_broken(&programme.rows, &amounts).is_some());
+        match rounding::repaired(&programme, amounts) {
+            Ok(amounts) => {
+                assert_eq!(first_broken(&programme.rows, &amounts), None);
+                let standings = standings(&pair.case);
+                assert_eq!(first_above_bound(&pair.case, &standings, &amounts), None);
+                repaired += 1;
+            }
+            Err(line) => assert!(line.contains("stays broken")),
+        }
+    }
+    assert!(broken > 40 && repaired > 54, "{broken} broken, {repaired} repaired, of 60");
+}
+
+#[test]
+fn a_schedule_that_cannot_be_repaired_is_told() {
+    let mut pair = worked::pair();
+    pair.case.demand = 65_001;
+    let programme = Programme::of_case(&pair.case);
+    let told = rounding::repaired(&programme, pair.certificate.amounts);
+    assert!(told.is_err_and(|line| line.contains("no whole-kW schedule")));
+}
+
+#[test]
+fn wrong_use_is_told_in_a_line() {
+    let directory = scratch("solve-wrong-use");
+    std::fs::write(directory.join("k.case"), worked::pair().case_file()).expect("written");
+    std::fs::write(directory.join("bad.case"), b"no case").expect("written");
+    for (arguments, status, part) in [
+        (&[][..], 2, "no CASE"),
+        (&["k.case"], 2, "no -o CERT"),
+        (&["-o", "k.cert"], 2, "no CASE"),
+        (&["k.case", "-o"], 2, "-o wants a value"),
+        (&["k.case", "k.case", "-o", "k.cert"], 2, "more than one CASE"),
+        (&["k.case", "-o", "k.cert", "--odd"], 2, "--odd"),
+        (&["k.case", "-o", "k.cert", "--solver", "abacus"], 2, "glpsol, clp or cbc"),
+        (&["k.case", "-o", "k.cert", "--seconds", "0"], 2, "--seconds"),
+        (&["none.case", "-o", "k.cert"], 2, "none.case"),
+        (&["bad.case", "-o", "k.cert"], 1, "refused 1"),
+        (&["k.case", "-o", "k.cert", "--keep", "k.case"], 2, "k.case"),
+        // The search path holds no solver.
+        (&["k.case", "-o", "k.cert"], 1, "cannot start glpsol (Debian's glpk-utils)"),
+        (&["k.case", "-o", "k.cert", "--solver", "clp"], 1, "coinor-clp"),
+        (&["k.case", "-o", "k.cert", "--solver", "cbc"], 1, "coinor-cbc"),
+    ] {
+        let line = told(&directory, arguments, status);
+        assert!(line.contains(part), "{arguments:?}: {line}");
+    }
+    assert!(!directory.join("k.cert").exists());
+}
+
+#[test]
+fn help_names_every_option() {
+    let output = run(&scratch("solve-help"), &["--help"]);
+    assert!(output.status.success());
+    let text = String::from_utf8(output.stdout).expect("text");
+    for option in ["CASE", "-o CERT", "--solver", "--keep", "--seconds"] {
+        assert!(text.contains(option));
+    }
+}
