@@ -1,0 +1,258 @@
+//! Writes the part of the corpus that needs no solver, and the cases for
+//! those that do. See `tests/corpus/make`.
+//!
+//! Usage: make-corpus DIR
+
+use nostwier_reference::case::{flag, status, Flowgate, Kind};
+use nostwier_reference::damage::{every_damage, Damaged};
+use nostwier_reference::generate::{pair_of_counts, pair_of_scale, Pair, Scale};
+use nostwier_reference::layout::Counts;
+use nostwier_reference::program::whole_text;
+use nostwier_reference::random::Random;
+use nostwier_reference::{read_case, read_certificate, worked};
+use std::collections::BTreeMap;
+use std::io;
+use std::path::{Path, PathBuf};
+use std::process::ExitCode;
+
+fn main() -> ExitCode {
+    let Some(directory) = std::env::args_os().nth(1) else {
+        eprintln!("usage: make-corpus DIR");
+        return ExitCode::from(2);
+    };
+    match make(Path::new(&directory)) {
+        Ok(()) => ExitCode::SUCCESS,
+        Err(error) => {
+            eprintln!("make-corpus: {error}");
+            ExitCode::from(1)
+        }
+    }
+}
+
+fn make(directory: &Path) -> io::Result<()> {
+    let pairs = Corpus::new(directory.join("pairs"))?;
+    for (name, pair) in worked_pairs() {
+        pairs.pair(&format!("worked-{name}"), &pair.case_file(), &pair.certificate_file())?;
+    }
+    for (name, pair) in generated_pairs() {
+        pairs.pair(&format!("generated-{name}"), &pair.case_file(), &pair.certificate_file())?;
+    }
+    for (name, case, certificate) in refused_pairs() {
+        pairs.pair(&name, &case, &certificate)?;
+    }
+    let operations = Corpus::new(directory.join("operations"))?;
+    let mut list = String::new();
+    for (name, arguments, input) in operation_inputs() {
+        list.push_str(&format!("{name} {arguments}\n"));
+        operations.write(&format!("{name}.input"), &input)?;
+    }
+    operations.write("list", list.as_bytes())?;
+    for (name, case) in cases_to_solve() {
+        for solver in ["glpsol", "clp"] {
+            pairs.write(&format!("{solver}-{name}.case"), &case)?;
+        }
+    }
+    Ok(())
+}
+
+/// One directory of the corpus.
+struct Corpus {
+    directory: PathBuf,
+}
+
+impl Corpus {
+    fn new(directory: PathBuf) -> io::Result<Corpus> {
+        std::fs::create_dir_all(&directory)?;
+        Ok(Corpus { directory })
+    }
+
+    fn write(&self, name: &str, bytes: &[u8]) -> io::Result<()> {
+        std::fs::write(self.directory.join(name), bytes)
+    }
+
+    fn pair(&self, name: &str, case: &[u8], certificate: &[u8]) -> io::Result<()> {
+        self.write(&format!("{name}.case"), case)?;
+        self.write(&format!("{name}.cert"), certificate)
+    }
+}
+
+/// (a) to (l) of the paper.
+fn worked_pairs() -> Vec<(&'static str, Pair)> {
+    const ENERGY: usize = 4;
+    const HIGH_ROW: usize = 12;
+    let changed = |change: &dyn Fn(&mut Pair)| {
+        let mut pair = worked::pair();
+        change(&mut pair);
+        pair
+    };
+    let meets = |pair: &mut Pair, power: i64| {
+        pair.case.demand = power;
+        pair.certificate.amounts[ENERGY] = power;
+    };
+    let intermittent = |pair: &mut Pair, output: i64| {
+        pair.case.resources[0].kind = Kind::Intermittent;
+        pair.case.resources[0].status = status::COMMITTED;
+        pair.case.resources[0].output = output;
+    };
+    let contingency = |pair: &mut Pair, amount: i64| {
+        pair.case.contingency.multiplier = 700;
+        pair.case.contingency.share = 1000;
+        pair.case.contingency.requirement = 2_000_000;
+        pair.case.resources[0].flags = flag::SPINNING;
+        pair.case.resources[0].economic.maximum = 200_000;
+        pair.certificate.amounts[ENERGY + 2] = amount;
+    };
+    vec![
+        ("a", worked::pair()),
+        ("b", changed(&|pair| pair.certificate.row_prices[0] = 2_500_000)),
+        ("c", changed(&|pair| pair.certificate.row_prices[0] = 3_500_000)),
+        (
+            "d",
+            changed(&|pair| {
+                meets(pair, 65_000);
+                pair.certificate.row_prices[0] = 3_500_000;
+                pair.certificate.row_prices[HIGH_ROW] = 500_000;
+            }),
+        ),
+        ("e", changed(&|pair| meets(pair, 65_001))),
+        ("f", changed(&|pair| pair.certificate.amounts[ENERGY] = 59_999)),
+        ("g", changed(&|pair| pair.case.resources[0].output = 499)),
+        ("h-plus", changed(&|pair| pair.case.resources[0].output = 500)),
+        ("h-minus", changed(&|pair| pair.case.resources[0].output = -500)),
+        ("i-15", changed(&|pair| pair.case.resources[0].minutes_since_trip = 15)),
+        ("i-16", changed(&|pair| pair.case.resources[0].minutes_since_trip = 16)),
+        ("j-1", changed(&|pair| intermittent(pair, 1))),
+        ("j-0", changed(&|pair| intermittent(pair, 0))),
+        ("k-42857", changed(&|pair| contingency(pair, 42_857))),
+        ("k-42858", changed(&|pair| contingency(pair, 42_858))),
+        (
+            "l",
+            changed(&|pair| {
+                pair.case.counts.flowgates = 1;
+                pair.case.flowgates = vec![Flowgate { limit: 0, factors: vec![-60] }];
+                pair.certificate.counts.flowgates = 1;
+                pair.certificate.row_prices.insert(9, 200);
+            }),
+        ),
+    ]
+}
+
+fn counts(resources: usize, zones: usize, flowgates: usize) -> Counts {
+    Counts { resources, zones, flowgates }
+}
+
+/// Accepted pairs from the smallest to the largest.
+fn generated_pairs() -> Vec<(String, Pair)> {
+    let sizes = [(1, 1, 0), (1, 8, 16), (3, 2, 1), (8, 3, 4), (20, 8, 8), (64, 8, 16)];
+    sizes
+        .into_iter()
+        .enumerate()
+        .map(|(index, (resources, zones, flowgates))| {
+            let mut random = Random::new(100 + index as u64);
+            let pair = pair_of_counts(&mut random, counts(resources, zones, flowgates));
+            (format!("{resources}-{zones}-{flowgates}"), pair)
+        })
+        .collect()
+}
+
+/// Cases that solvers are given, of common size.
+fn cases_to_solve() -> Vec<(String, Vec<u8>)> {
+    // Seeds whose whole-number search ends soon, so that no clock has a say.
+    let sizes =
+        [(200, 2, 1, 0), (201, 6, 2, 2), (202, 15, 3, 0), (203, 30, 4, 6), (208, 64, 8, 16)];
+    sizes
+        .into_iter()
+        .map(|(seed, resources, zones, flowgates)| {
+            let mut random = Random::new(seed);
+            let scale = Scale { edges: 5, ..Scale::COMMON };
+            let pair = pair_of_scale(&mut random, counts(resources, zones, flowgates), scale);
+            (format!("{resources}-{zones}-{flowgates}"), pair.case_file())
+        })
+        .collect()
+}
+
+/// How many pairs stand for a refusal number; 13 and 14 at several places.
+fn how_many(number: u32) -> usize {
+    match number {
+        13 => 5,
+        14 => 8,
+        5 | 12 => 3,
+        1 | 3 | 6 | 8 => 2,
+        _ => 1,
+    }
+}
+
+/// Damaged pairs that the program refuses as it must, split as it splits them.
+fn refused_pairs() -> Vec<(String, Vec<u8>, Vec<u8>)> {
+    let pair = pair_of_counts(&mut Random::new(300), counts(2, 2, 2));
+    let mut by_number: BTreeMap<u32, Vec<Damaged>> = BTreeMap::new();
+    for damaged in every_damage(&pair) {
+        let printed = whole_text(&[&damaged.case[..], &damaged.certificate].concat());
+        if printed == format!("{}\n", damaged.refusal) {
+            by_number.entry(damaged.refusal.number()).or_default().push(damaged);
+        }
+    }
+    let mut list = Vec::new();
+    for (number, damages) in by_number {
+        for (index, damaged) in spread(damages, how_many(number)).into_iter().enumerate() {
+            let name = match damaged.refusal.place() {
+                Some(place) => format!("refused-{number:02}-{place:02}"),
+                None => format!("refused-{number:02}-{}", index + 1),
+            };
+            list.push((name, damaged.case, damaged.certificate));
+        }
+    }
+    list.push(("refused-01-empty".to_string(), Vec::new(), Vec::new()));
+    list.extend(too_long());
+    list
+}
+
+/// So many of a list, from its first to its last.
+fn spread(list: Vec<Damaged>, most: usize) -> Vec<Damaged> {
+    let length = list.len();
+    let chosen: Vec<usize> = match most.min(length) {
+        0 => Vec::new(),
+        1 => vec![0],
+        many => (0..many).map(|index| index * (length - 1) / (many - 1)).collect(),
+    };
+    let is_chosen = |index: &usize| chosen.contains(index);
+    list.into_iter().enumerate().filter(|(index, _)| is_chosen(index)).map(|(_, it)| it).collect()
+}
+
+/// Input of 32,768 bytes, which is not too long, and of one more.
+fn too_long() -> Vec<(String, Vec<u8>, Vec<u8>)> {
+    let pair = worked::pair();
+    let case = pair.case_file();
+    let mut certificate = pair.certificate_file();
+    certificate.resize(32_768 - case.len(), 0);
+    let longest = ("refused-08-longest".to_string(), case.clone(), certificate.clone());
+    certificate.push(0);
+    vec![longest, ("refused-17".to_string(), case, certificate)]
+}
+
+/// The other subcommands: name, arguments and standard input.
+fn operation_inputs() -> Vec<(&'static str, &'static str, Vec<u8>)> {
+    let pair = pair_of_counts(&mut Random::new(400), counts(3, 2, 2));
+    let joined = [pair.case_file(), pair.certificate_file()].concat();
+    let mut numbers = vec![0; 1000];
+    let count = read_case(&pair.case_file(), &mut numbers).unwrap_or(0);
+    let case_lines = lines(&numbers[..count]);
+    let count = read_certificate(&pair.certificate_file(), &mut numbers).unwrap_or(0);
+    let certificate_lines = lines(&numbers[..count]);
+    vec![
+        ("case", "case", pair.case_file()),
+        ("prices", "prices", joined.clone()),
+        ("charges", "charges", joined.clone()),
+        ("charges-15", "charges --buffer 87", joined.clone()),
+        ("read-case", "read-case", pair.case_file()),
+        ("read-certificate", "read-certificate", pair.certificate_file()),
+        ("write-case", "write-case", case_lines.clone()),
+        ("write-case-16", "write-case", [&case_lines[..], b"0\n"].concat()),
+        ("write-certificate", "write-certificate", certificate_lines),
+        ("write-certificate-03", "write-certificate", b"1\n9\n0\n".to_vec()),
+    ]
+}
+
+fn lines(numbers: &[i64]) -> Vec<u8> {
+    numbers.iter().map(|number| format!("{number}\n")).collect::<String>().into_bytes()
+}
