@@ -1,12 +1,12 @@
 -- What holds of each element of a list made piece by piece; tests of all elements; lengths.
 use mathlib.Core.Path.{_≡_, refl, _∙_, ap}
 use mathlib.Core.Bool.{Bool, true, false, _&&_}
-use mathlib.Core.List.{List, [], _∷_, _++_, map}
+use mathlib.Core.List.{List, [], _∷_, _++_, map, append-assoc}
 use Prim.Native.Nat.{ℕ, zero, suc, _+_, _*_, _<_}
 use native.Mathlib.Decide.{decLt}
 use native.Mathlib.Omega.{arith}
 use lib.Dec.{T}
-use lib.ListN.{length, length-append}
+use lib.ListN.{length, getD, drop, length-append}
 use Rattle.arith.specs.Sums.{Each, all, upto, across}
 
 pub and-split : (a b : Bool) → T (a && b) → T a × T b
@@ -48,6 +48,17 @@ module _ {A : Type 0} where
   each-split P [] ys h = (tt, h)
   each-split P (x ∷ xs) ys h = let r = each-split P xs ys (h .1) in ((h .0, r .0), r .1)
 
+  pub each-drop : (P : A → Type 0) (n : ℕ) (xs : List A) → Each P xs → Each P (drop n xs)
+  each-drop P zero xs h = h
+  each-drop P (suc n) [] h = h
+  each-drop P (suc n) (x ∷ xs) h = each-drop P n xs (h .1)
+
+  -- the element at a place, and what is read beyond the end
+  pub each-at : (P : A → Type 0) (xs : List A) (d : A) → Each P xs → P d → (i : ℕ) → P (getD xs i d)
+  each-at P [] d h k i = k
+  each-at P (x ∷ xs) d h k zero = h .0
+  each-at P (x ∷ xs) d h k (suc i) = each-at P xs d (h .1) k i
+
 module _ {A B : Type 0} where
   pub each-of-map : (P : B → Type 0) (g : A → B) (xs : List A) → Each P (map g xs) → Each (λ x. P (g x)) xs
   each-of-map P g [] h = tt
@@ -66,6 +77,17 @@ module _ {A B : Type 0} where
   unfolding across
   each-across P g [] h = tt
   each-across P g (x ∷ xs) h = each-join P (g x) (across g xs) (h .0) (each-across P g xs (h .1))
+
+  pub across-append : (g : A → List B) (xs ys : List A) → across g (xs ++ ys) ≡ across g xs ++ across g ys
+  unfolding across
+  across-append g [] ys = refl
+  across-append g (x ∷ xs) ys = rw (across-append g xs ys, append-assoc (g x) (across g xs) (across g ys))
+
+  -- one for each element
+  pub across-one : (g : A → B) (xs : List A) → across (λ x. g x ∷ []) xs ≡ map g xs
+  unfolding across
+  across-one g [] = refl
+  across-one g (x ∷ xs) = ap (λ (l : List B). g x ∷ l) (across-one g xs)
 
   -- n for each element
   pub length-across : (g : A → List B) (n : ℕ) → ((x : A) → length (g x) ≡ n) → (xs : List A) → length (across g xs) ≡ length xs * n

@@ -7,6 +7,7 @@ use native.Mathlib.Nat.{zero-add}
 use native.Mathlib.Omega.{arith}
 use native.Mathlib.Numerals.{add-one}
 use lib.IntN.{ℤ, pos, negℤ, natAbs, _+ℤ_, _-ℤ_, _*ℤ_, +ℤ-idl, +ℤ-idr, *ℤ-zero, zero-*ℤ}
+use lib.ListN.{length, replicate}
 use lib.Signed.{_≤ℤ_, ≤ℤ-refl}
 use Rattle.arith.specs.Sums.{sumOf, totalOf, sizeOf, Each, upto, across}
 use Rattle.arith.proofs.Order.{+ℤ-mono}
@@ -108,6 +109,16 @@ module _ {A : Type 0} where
   unfolding totalOf
   total-mono f g [] h = omega arith
   total-mono f g (x ∷ xs) h = omega (arith, h .0, total-mono f g xs (h .1))
+
+  pub total-same : (m : ℕ) (xs : List A) → totalOf (λ x. m) xs ≡ length xs * m
+  unfolding totalOf
+  total-same m [] = omega arith
+  total-same m (x ∷ xs) = omega (arith, total-same m xs)
+
+  pub total-replicate : (f : A → ℕ) (n : ℕ) (x : A) → totalOf f (replicate n x) ≡ n * f x
+  unfolding totalOf
+  total-replicate f zero x = omega arith
+  total-replicate f (suc n) x = omega (arith, total-replicate f n x)
 
   pub sum-size : (f : A → ℤ) (xs : List A) → natAbs (sumOf f xs) ≤ sizeOf f xs
   unfolding sumOf totalOf

@@ -9,3 +9,9 @@ pub mod CaseProgramme
 pub mod Counts
 pub mod Accepted
 pub mod Shown
+pub mod FieldBytes
+pub mod FieldLists
+pub mod FileSizes
+pub mod FileTrips
+pub mod RoundTrips
+pub mod InOrder

@@ -24,3 +24,4 @@ pub mod InWords
 pub mod WrongTurns
 pub mod Fits
 pub mod RoundTrips
+pub mod FieldsInOrder
