@@ -6,3 +6,4 @@ pub mod Sums
 pub mod Lists
 pub mod Picks
 pub mod Duality
+pub mod Machine

@@ -17,6 +17,18 @@ pub and-join : (a b : Bool) → T a → T b → T (a && b)
 and-join true b h k = k
 and-join false b h k = absurd h
 
+-- several tests, joined as `a && b && c` is read
+abbrev pub joined : Bool → List Bool → Bool
+joined a [] = a
+joined a (b ∷ bs) = joined (a && b) bs
+
+pub and-each : (a : Bool) (bs : List Bool) → T (joined a bs) → T a × Each T bs
+and-each a [] h = (h, tt)
+and-each a (b ∷ bs) h =
+    let r = and-each (a && b) bs h in
+    let s = and-split a b (r .0) in
+    (s .0, (s .1, r .1))
+
 module _ {A : Type 0} where
   pub all-each : (f : A → Bool) (xs : List A) → T (all f xs) → Each (λ x. T (f x)) xs
   unfolding all

@@ -8,7 +8,8 @@ use lib.Signed.{_≤ℤ_, _<ℤ_, mag}
 use mir.Syntax.{Width, w64}
 use mir.Val.{SFits, hbits}
 use Rattle.arith.proofs.Parts.{P, N, le-out, le-in, eq-out, eq-in, P-neg, N-neg, P-mul, N-mul, P-add, N-add, add-fact, abs-parts, part}
-use Rattle.arith.proofs.Order.{zl}
+use Rattle.arith.specs.Sums.{minℤ}
+use Rattle.arith.proofs.Order.{zl, P-min, N-min}
 
 pub abs-add : (a b : ℤ) → natAbs (a +ℤ b) ≤ natAbs a + natAbs b
 abs-add a b = omega (arith, abs-parts (a +ℤ b), abs-parts a, abs-parts b, P-add a b, N-add a b)
@@ -22,7 +23,38 @@ abs-sub a b = omega (arith, abs-add a (negℤ b), abs-neg b)
 pub abs-mul : (a b : ℤ) → natAbs (a *ℤ b) ≡ natAbs a * natAbs b
 abs-mul a b = simp (abs-parts, P-mul, N-mul) (omega arith)
 
--- a width's range, exactly
+-- ---- a number's size in a formula
+-- |z| ≤ m, as a record: z and m are inferred, so that a formula's size is built as the formula is
+pub record Size (z : ℤ) (m : ℕ) : Type 0 where
+  pub le : natAbs z ≤ m
+
+pub size-nat : {m n : ℕ} → n ≤ m → Size (pos n) m
+size-nat h = record { le = h }
+
+pub size-more : {a : ℤ} {m n : ℕ} → Size a m → m ≤ n → Size a n
+size-more {a} h k = record { le = omega (arith, h .le) }
+
+pub size-add : {a b : ℤ} {m n : ℕ} → Size a m → Size b n → Size (a +ℤ b) (m + n)
+size-add {a} {b} h k = record { le = omega (arith, abs-add a b) }
+
+pub size-sub : {a b : ℤ} {m n : ℕ} → Size a m → Size b n → Size (a -ℤ b) (m + n)
+size-sub {a} {b} h k = record { le = omega (arith, abs-sub a b) }
+
+pub size-neg : {a : ℤ} {m : ℕ} → Size a m → Size (negℤ a) m
+size-neg {a} h = record { le = omega (arith, abs-neg a) }
+
+pub size-mul : {a b : ℤ} {m n : ℕ} → Size a m → Size b n → Size (a *ℤ b) (m * n)
+size-mul {a} {b} h k = record { le = omega (arith, abs-mul a b, mul-le-mul (h .le) (k .le)) }
+
+-- the smaller of 0 and z
+pub size-least : {z : ℤ} {m : ℕ} → Size z m → Size (minℤ (pos 0) z) m
+size-least {z} h = record { le = omega (arith, abs-parts (minℤ (pos 0) z), abs-parts z, P-min (pos 0) z, N-min (pos 0) z) }
+
+-- a range that is as wide on both sides
+pub size-between : (n : ℕ) (v : ℤ) → negℤ (pos n) ≤ℤ v → v ≤ℤ pos n → Size v n
+size-between n v h k = record { le = omega (arith, le-out h, le-out k, P-neg (pos n), N-neg (pos n), abs-parts v, part v) }
+
+-- ---- a width's range, exactly
 mag-is : (z : ℤ) → max (suc (P z)) (N z) ≡ suc (mag z)
 mag-is (pos n) = omega arith
 mag-is (negsuc n) = omega arith

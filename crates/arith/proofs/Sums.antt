@@ -4,6 +4,7 @@ use mathlib.Core.Bool.{Bool, true, false, cond}
 use mathlib.Core.List.{List, [], _∷_, _++_, map}
 use Prim.Native.Nat.{ℕ, zero, suc, _+_, _*_, _<_, _≤_}
 use native.Mathlib.Nat.{zero-add}
+use native.Mathlib.Decide.{decLe}
 use native.Mathlib.Omega.{arith}
 use native.Mathlib.Numerals.{add-one}
 use lib.IntN.{ℤ, pos, negℤ, natAbs, _+ℤ_, _-ℤ_, _*ℤ_, +ℤ-idl, +ℤ-idr, *ℤ-zero, zero-*ℤ}
@@ -12,7 +13,7 @@ use lib.Signed.{_≤ℤ_, ≤ℤ-refl}
 use Rattle.arith.specs.Sums.{sumOf, totalOf, sizeOf, Each, upto, across}
 use Rattle.arith.proofs.Order.{+ℤ-mono}
 use Rattle.arith.proofs.Linear.{sorted, count}
-use Rattle.arith.proofs.Magnitudes.{abs-add}
+use Rattle.arith.proofs.Magnitudes.{abs-add, Size}
 
 -- two numbers that are not negative, with the sum 0
 both-zero : (a b : ℤ) → pos 0 ≤ℤ a → pos 0 ≤ℤ b → a +ℤ b ≡ pos 0 → (a ≡ pos 0) × (b ≡ pos 0)
@@ -120,10 +121,23 @@ module _ {A : Type 0} where
   total-replicate f zero x = omega arith
   total-replicate f (suc n) x = omega (arith, total-replicate f n x)
 
+  pub total-mono-all : (f g : A → ℕ) → ((x : A) → f x ≤ g x) → (xs : List A) → totalOf f xs ≤ totalOf g xs
+  unfolding totalOf
+  total-mono-all f g h [] = omega arith
+  total-mono-all f g h (x ∷ xs) = omega (arith, h x, total-mono-all f g h xs)
+
+  pub total-scale : (k : ℕ) (f : A → ℕ) (xs : List A) → totalOf (λ x. k * f x) xs ≡ k * totalOf f xs
+  unfolding totalOf
+  total-scale k f [] = omega arith
+  total-scale k f (x ∷ xs) = omega (arith, total-scale k f xs)
+
   pub sum-size : (f : A → ℤ) (xs : List A) → natAbs (sumOf f xs) ≤ sizeOf f xs
   unfolding sumOf totalOf
   sum-size f [] = omega arith
   sum-size f (x ∷ xs) = omega (arith, abs-add (f x) (sumOf f xs), sum-size f xs)
+
+  pub size-sum : (f : A → ℤ) (xs : List A) {m : ℕ} → sizeOf f xs ≤ m → Size (sumOf f xs) m
+  size-sum f xs h = record { le = omega (arith, sum-size f xs) }
 
   -- every sum that a walk over the list forms on its way
   pub part-size : (f : A → ℤ) (xs ys : List A) → natAbs (sumOf f xs) ≤ sizeOf f (xs ++ ys)
@@ -164,6 +178,22 @@ sum-upto f n = rw add-one (sum-append f (upto n) (n ∷ []) ∙ ap (λ (t : ℤ)
 pub total-suc : (f : ℕ → ℕ) (n : ℕ) → totalOf f (upto (suc n)) ≡ totalOf f (upto n) + f n
 unfolding upto totalOf
 total-suc f n = omega (arith, total-append f (upto n) (n ∷ []))
+
+-- the same terms and more
+pub total-longer : (f : ℕ → ℕ) {m : ℕ} (n : ℕ) → m ≤ n → totalOf f (upto m) ≤ totalOf f (upto n)
+total-longer f {m} zero h = let e : m ≡ 0 = omega arith in rw e (omega arith)
+total-longer f {m} (suc n) h = go (total-longer f {m = m} n) (decLe m n)
+  where
+    go : (m ≤ n → totalOf f (upto m) ≤ totalOf f (upto n)) → Dec (m ≤ n) → totalOf f (upto m) ≤ totalOf f (upto (suc n))
+    go shorter (yes k) = omega (arith, shorter k, total-suc f n)
+    go shorter (no k) = let e : m ≡ suc n = omega arith in rw e (omega arith)
+
+module _ {A : Type 0} (f : A → ℕ) where
+  pub total-longer-map : (g : ℕ → A) {m : ℕ} (n : ℕ) → m ≤ n → totalOf f (map g (upto m)) ≤ totalOf f (map g (upto n))
+  total-longer-map g {m} n h = rw (total-map f g (upto m), total-map f g (upto n)) (total-longer (λ i. f (g i)) n h)
+
+  pub total-longer-across : (g : ℕ → List A) {m : ℕ} (n : ℕ) → m ≤ n → totalOf f (across g (upto m)) ≤ totalOf f (across g (upto n))
+  total-longer-across g {m} n h = rw (total-across f g (upto m), total-across f g (upto n)) (total-longer (λ i. totalOf f (g i)) n h)
 
 -- n terms, each at most m
 pub total-most : (f : ℕ → ℕ) (m n : ℕ) → ((j : ℕ) → j < n → f j ≤ m) → totalOf f (upto n) ≤ n * m

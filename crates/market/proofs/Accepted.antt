@@ -28,7 +28,7 @@ use Rattle.market.specs.Refusals.{Finding, clear, holds, firstOf, outcom
 use Rattle.market.specs.Outcome.{outcome, grounds, valued, valuation, caseGrounds, certificateGrounds, priceRight, withinBound, rowMet, listedCharges, chargeGrounds, chargeAnswer, chargeBuffer}
 use Rattle.market.specs.Promise.{Demand3}
 use Rattle.market.proofs.CaseProgramme.{programme, parts, PriceMay, PricesMay, cost-is, bound-is, charges-are, feasible}
-use Rattle.market.proofs.Counts.{charge-count}
+use Rattle.market.proofs.Lengths.{charge-count}
 use Rattle.market.proofs.Grounds.{none-holds, unless-clear, none-fails, meets-Meets}
 
 -- ---- of a case, row prices that may stand, and a schedule

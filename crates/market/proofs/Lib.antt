@@ -6,9 +6,13 @@ pub mod Entries
 pub mod NetPrices
 pub mod RowSlacks
 pub mod CaseProgramme
-pub mod Counts
+pub mod Lengths
 pub mod Accepted
 pub mod Shown
+pub mod Families
+pub mod Ranges
+pub mod Sizes
+pub mod SumsFit
 pub mod FieldBytes
 pub mod FieldLists
 pub mod FileSizes

@@ -25,3 +25,4 @@ pub mod WrongTurns
 pub mod Fits
 pub mod RoundTrips
 pub mod FieldsInOrder
+pub mod Records

@@ -1,4 +1,4 @@
-// The types of a dispatch interval: units, status bits and flags, refusals and answers.
+// The types of a dispatch interval: units, status bits and flags, records of the case, refusals and answers.
 // The definitions of document 01 stand in specs/, what is proved of them in proofs/.
 ghost use mathlib.Core.Path.{_≡_};
 ghost use Rattle.market.specs.Bits.{committed, available, activeSchedule, onLineSupplemental, regulatingFlag, spinningFlag, offLineSupplementalFlag, offLineShortTermFlag, emergencyMaximumFlag, selfScheduledFlag, emergencyMinimumFlag, onLineShortTermFlag, statusOf};
@@ -142,6 +142,89 @@ impl Flags {
     {
         self.0 / Flags::ON_LINE_SHORT_TERM % 2 == 1
     }
+}
+
+// What a case file counts: resources, zones, flowgates.
+pub struct Counts {
+    pub resources: usize,
+    pub zones: usize,
+    pub flowgates: usize,
+}
+
+// An offer step or a demand curve step.
+pub struct Step {
+    pub width: Kw,
+    pub price: Cents,
+}
+
+pub struct OfferSteps {
+    pub of: [Step; 10],
+}
+
+pub struct CurveSteps {
+    pub of: [Step; 4],
+}
+
+// A resource's record, read by value.
+pub struct State {
+    pub kind: u8,
+    pub zone: u8,
+    pub breaker: u8,
+    pub status: Status,
+    pub trip: u8,
+    pub flags: Flags,
+    pub output: Kw,
+}
+
+pub struct OutputLimits {
+    pub economic_min: Kw,
+    pub economic_max: Kw,
+    pub regulating_min: Kw,
+    pub regulating_max: Kw,
+    pub emergency_min: Kw,
+    pub emergency_max: Kw,
+}
+
+// In kW a minute.
+pub struct Ramps {
+    pub up: Kw,
+    pub down: Kw,
+    pub rate: Kw,
+}
+
+pub struct Starts {
+    pub initial: Kw,
+    pub off_line_response: Kw,
+    pub off_line_short_term: Kw,
+    pub self_schedule: Kw,
+}
+
+pub struct ReserveOffers {
+    pub regulating: Cents,
+    pub contingency: Cents,
+    pub off_line_short_term: Cents,
+}
+
+pub struct Resource {
+    pub state: State,
+    pub limits: OutputLimits,
+    pub ramps: Ramps,
+    pub starts: Starts,
+    pub offers: ReserveOffers,
+    pub steps: OfferSteps,
+}
+
+// What a case says of one reserve: the multiplier and the largest share in thousandths, minutes, the market requirement.
+pub struct ReserveTerms {
+    pub multiplier: u32,
+    pub minutes: u32,
+    pub share: u32,
+    pub requirement: Kw,
+}
+
+// A zone's requirements, in the order of the demand curves.
+pub struct ZoneRequirements {
+    pub of: [Kw; 4],
 }
 
 // The grounds of refusal, in the order of their numbers; 13 with the quantity's place, 14 with the row's number.

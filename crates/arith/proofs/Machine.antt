@@ -1,0 +1,29 @@
+-- Signed 64-bit numbers as the machine holds them: a number's bits, and tests on signed numbers.
+use mathlib.Core.Path.{_≡_, refl}
+use mathlib.Core.Bool.{Bool, true, false, not}
+use Prim.Native.Nat.{ℕ, _<_}
+use lib.Dec.{ltb, leb}
+use lib.IntN.{ℤ, pos, negsuc}
+use lib.Signed.{ltZ, leZ}
+use mir.Syntax.{w64}
+use mir.Val.{toZ}
+use mir.Facts.{toZ-pos}
+use borrow.Author.Tests.{le-leb, lt-leb, ltb-true, ltb-false}
+
+-- a number below 2^63 as the bits of a signed one
+pub small-bits : (n : ℕ) → n < 9223372036854775808 → toZ w64 n ≡ pos n
+small-bits n h = toZ-pos w64 h
+
+-- 'at most' is 'not above'
+leb-by : (a b : ℕ) (t : Bool) → ltb b a ≡ t → leb a b ≡ not t
+leb-by a b true e = lt-leb a b (ltb-true b a e)
+leb-by a b false e = le-leb a b (ltb-false b a e)
+
+pub leb-flip : (a b : ℕ) → leb a b ≡ not (ltb b a)
+leb-flip a b = leb-by a b (ltb b a) refl
+
+pub leZ-flip : (a b : ℤ) → leZ b a ≡ not (ltZ a b)
+leZ-flip (pos a) (pos b) = leb-flip b a
+leZ-flip (pos a) (negsuc b) = refl
+leZ-flip (negsuc a) (pos b) = refl
+leZ-flip (negsuc a) (negsuc b) = leb-flip a b

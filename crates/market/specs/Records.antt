@@ -1,0 +1,116 @@
+-- The records that code reads by value, as they follow from the figures of a case.
+use mathlib.Core.List.{[], _∷_}
+use Prim.Native.Nat.{ℕ}
+use lib.IntN.{ℤ, pos}
+use Rattle.market.specs.declared.Kw.{Kw}
+use Rattle.market.specs.declared.Cents.{Cents}
+use Rattle.market.specs.declared.Millicents.{Millicents}
+use Rattle.market.specs.declared.Grains.{Grains}
+use Rattle.market.specs.declared.Counts.{Counts}
+use Rattle.market.specs.declared.Step.{Step}
+use Rattle.market.specs.declared.OfferSteps.{OfferSteps}
+use Rattle.market.specs.declared.CurveSteps.{CurveSteps}
+use Rattle.market.specs.declared.State.{State}
+use Rattle.market.specs.declared.OutputLimits.{OutputLimits}
+use Rattle.market.specs.declared.Ramps.{Ramps}
+use Rattle.market.specs.declared.Starts.{Starts}
+use Rattle.market.specs.declared.ReserveOffers.{ReserveOffers}
+use Rattle.market.specs.declared.ReserveTerms.{ReserveTerms}
+use Rattle.market.specs.declared.ZoneRequirements.{ZoneRequirements}
+use Rattle.market.specs.declared.Resource as D
+use Rattle.market.specs.Case.{Case, Resource, Curve, Reserve, operating, regulatingPlusSpinning, regulating, shortTerm}
+
+abbrev pub kw : ℤ → Kw
+kw v = record { 0 = v }
+
+abbrev pub cents : ℤ → Cents
+cents v = record { 0 = v }
+
+abbrev pub millicents : ℤ → Millicents
+millicents v = record { 0 = v }
+
+abbrev pub grains : ℤ → Grains
+grains v = record { 0 = v }
+
+-- a figure of the case in its unit
+abbrev pub power : ℕ → Kw
+power n = kw (pos n)
+
+abbrev pub price : ℕ → Cents
+price n = cents (pos n)
+
+abbrev pub countsIn : Case → Counts
+countsIn c = record { resources = c .resources; zones = c .zones; flowgates = c .flowgates }
+
+unfoldable pub offerStepOf : Resource → ℕ → Step
+offerStepOf r j = record { width = power (r .stepWidth j); price = cents (r .stepPrice j) }
+
+unfoldable pub offerStepsOf : Resource → OfferSteps
+offerStepsOf r =
+    record {
+      of =
+          offerStepOf r 0 ∷ offerStepOf r 1 ∷ offerStepOf r 2 ∷ offerStepOf r 3 ∷ offerStepOf r 4
+          ∷ offerStepOf r 5 ∷ offerStepOf r 6 ∷ offerStepOf r 7 ∷ offerStepOf r 8 ∷ offerStepOf r 9 ∷ [];
+    }
+
+unfoldable pub stateOf : Resource → State
+stateOf r =
+    record {
+      kind = r .kind;
+      zone = r .zone;
+      breaker = r .breaker;
+      status = record { 0 = r .status };
+      trip = r .trip;
+      flags = record { 0 = r .flags };
+      output = kw (r .output);
+    }
+
+unfoldable pub outputLimitsOf : Resource → OutputLimits
+outputLimitsOf r =
+    record {
+      «economic_min» = power (r .economicMin);
+      «economic_max» = power (r .economicMax);
+      «regulating_min» = power (r .regulatingMin);
+      «regulating_max» = power (r .regulatingMax);
+      «emergency_min» = power (r .emergencyMin);
+      «emergency_max» = power (r .emergencyMax);
+    }
+
+unfoldable pub rampsOf : Resource → Ramps
+rampsOf r = record { up = power (r .rampUp); down = power (r .rampDown); rate = power (r .rampRate) }
+
+unfoldable pub startsOf : Resource → Starts
+startsOf r =
+    record {
+      initial = power (r .initial);
+      «off_line_response» = power (r .offLineResponse);
+      «off_line_short_term» = power (r .offLineShortTerm);
+      «self_schedule» = power (r .selfSchedule);
+    }
+
+unfoldable pub reserveOffersOf : Resource → ReserveOffers
+reserveOffersOf r =
+    record { regulating = price (r .regulatingPrice); contingency = price (r .contingencyPrice); «off_line_short_term» = price (r .offLineShortTermPrice) }
+
+-- a resource's record
+unfoldable pub recordOf : Resource → D.Resource
+recordOf r =
+    record { state = stateOf r; limits = outputLimitsOf r; ramps = rampsOf r; starts = startsOf r; offers = reserveOffersOf r; steps = offerStepsOf r }
+
+-- what a case says of a reserve
+unfoldable pub reserveTermsOf : Case → Reserve → ReserveTerms
+reserveTermsOf c p = record { multiplier = c .multiplier p; minutes = c .minutes p; share = c .share p; requirement = power (c .requirement p) }
+
+unfoldable pub curveStepOf : Case → Curve → ℕ → Step
+curveStepOf c k j = record { width = power (c .curveWidth k j); price = price (c .curvePrice k j) }
+
+unfoldable pub curveStepsOf : Case → Curve → CurveSteps
+curveStepsOf c k = record { of = curveStepOf c k 0 ∷ curveStepOf c k 1 ∷ curveStepOf c k 2 ∷ curveStepOf c k 3 ∷ [] }
+
+unfoldable pub zoneRequirementsOf : Case → ℕ → ZoneRequirements
+zoneRequirementsOf c z =
+    record {
+      of =
+          power (c .zoneRequirement z operating) ∷ power (c .zoneRequirement z regulatingPlusSpinning)
+          ∷ power (c .zoneRequirement z regulating) ∷ power (c .zoneRequirement z shortTerm) ∷ [];
+    }
