@@ -97,8 +97,12 @@ pub fn random_pair(random: &mut Random) -> Pair {
     pair_of_counts(random, counts)
 }
 
-/// An accepted pair of the given size and any scale.
+/// An accepted pair of the given size and any scale, now and then filled to
+/// the brim.
 pub fn pair_of_counts(random: &mut Random, counts: Counts) -> Pair {
+    if random.percent(4) {
+        return full_pair(random, counts);
+    }
     let scale = random.pick(&[Scale::FULL, Scale::COMMON, Scale::COMMON, Scale::SMALL]);
     let edges = random.pick(&[4, 15, 40]);
     pair_of_scale(random, counts, Scale { edges, ..scale })
@@ -120,6 +124,63 @@ pub fn pair_of_scale(random: &mut Random, counts: Counts, scale: Scale) -> Pair 
     clear_curves(random, &case, &mut amounts, scale);
     let row_prices = row_prices(random, &case, scale);
     Pair { case, certificate: Certificate { counts, amounts, row_prices } }
+}
+
+/// An accepted pair whose figures stand at the far ends of their ranges: all
+/// the energy there can be, or all the reserve.
+pub fn full_pair(random: &mut Random, counts: Counts) -> Pair {
+    let scale = Scale { edges: 100, ..Scale::FULL };
+    let price = random.pick(&[-scale.price, scale.price]);
+    let its_amounts = random.pick(&[
+        [scale.power, 0, 0, 0, 0],
+        [scale.power / 2, scale.power / 2, 0, scale.power / 2, 0],
+        [0, 0, scale.power, scale.power, 0],
+    ]);
+    let mut case = market(random, counts, scale);
+    for reserve in [&mut case.contingency, &mut case.regulating, &mut case.short_term] {
+        *reserve = Reserve { multiplier: 1, minutes: 60, share: 1000, requirement: 8_000_000 };
+    }
+    case.resources =
+        (0..counts.resources).map(|index| full_resource(index, counts, price)).collect();
+    let mut amounts = vec![0; Curve::ALL.len()];
+    amounts.extend(its_amounts.repeat(counts.resources));
+    let energy: Kw = energies(&amounts).iter().sum();
+    case.demand = energy;
+    let against_the_flow =
+        Flowgate { limit: -energy.min(20_000_000), factors: vec![-1000; counts.resources] };
+    case.flowgates = vec![against_the_flow; counts.flowgates];
+    set_zone_requirements(random, &mut case, &amounts, scale);
+    clear_curves(random, &case, &mut amounts, scale);
+    let row_prices = row_prices(random, &case, scale);
+    Pair { case, certificate: Certificate { counts, amounts, row_prices } }
+}
+
+/// An on-line resource, free to give all its power as energy or as reserve.
+fn full_resource(index: usize, counts: Counts, price: Cents) -> Resource {
+    let limits = Limits { minimum: 0, maximum: 2_000_000 };
+    Resource {
+        kind: Kind::Conventional,
+        zone: 1 + index % counts.zones,
+        breaker_closed: true,
+        status: 15,
+        minutes_since_trip: 255,
+        flags: 255 - flag::SELF_SCHEDULED,
+        output: 2_000_000,
+        economic: limits,
+        regulating: limits,
+        emergency: limits,
+        ramp_up: 400_000,
+        ramp_down: 400_000,
+        ramp_rate: 400_000,
+        initial: 2_000_000,
+        offline_response: 2_000_000,
+        offline_short_term: 2_000_000,
+        self_schedule: 2_000_000,
+        regulating_price: 400_000,
+        contingency_price: 400_000,
+        offline_short_term_price: 400_000,
+        steps: [Step { width: 200_000, price }; ENERGY_STEPS],
+    }
 }
 
 /// The market-wide figures; resources, zones and flowgates come later.

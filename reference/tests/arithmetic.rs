@@ -6,13 +6,16 @@ mod common;
 use nostwier_reference::accounts::{accounts, cost, listed, listed_amounts, Accounts};
 use nostwier_reference::case::{Curve, Flowgate, Step};
 use nostwier_reference::certificate::{accept, first_above_bound, first_broken, Accepted};
-use nostwier_reference::generate::{pair_of_counts, pair_of_scale, random_pair, Pair, Scale};
-use nostwier_reference::layout::Counts;
+use nostwier_reference::generate::{
+    full_pair, pair_of_counts, pair_of_scale, random_pair, Pair, Scale,
+};
+use nostwier_reference::layout::{case_fields, Counts};
 use nostwier_reference::prices::lmps;
 use nostwier_reference::random::Random;
 use nostwier_reference::rows::index_of;
 use nostwier_reference::standing::{standings, Product};
 use nostwier_reference::worked;
+use std::collections::{BTreeMap, BTreeSet};
 
 fn accepted(pair: &Pair) -> Accepted {
     accept(&pair.case_file(), &pair.certificate_file()).expect("accepted")
@@ -80,7 +83,7 @@ fn charges_make_the_gap_and_other_schedules_cost_no_less_than_the_bound() {
 }
 
 #[test]
-fn the_gap_is_the_same_however_the_prices_are_drawn() {
+fn the_cost_does_not_hang_on_the_prices() {
     let mut random = Random::new(22);
     for _ in 0..100 {
         let mut accepted = accepted(&random_pair(&mut random));
@@ -204,4 +207,35 @@ fn generated_cases_show_every_kind_of_standing() {
     assert!(online > 300 && offline > 200 && spinning > 100, "{online} {offline} {spinning}");
     assert!(cleared > 100, "{cleared}");
     assert!(products.iter().all(|count| *count > 50), "{products:?}");
+}
+
+#[test]
+fn generated_cases_reach_both_ends_of_every_range() {
+    let mut random = Random::new(26);
+    let mut ends: BTreeMap<&str, (bool, bool)> = BTreeMap::new();
+    let mut sizes = BTreeSet::new();
+    for _ in 0..3000 {
+        let pair = random_pair(&mut random);
+        let counts = pair.case.counts;
+        sizes.insert((counts.resources, counts.zones, counts.flowgates));
+        for (field, number) in case_fields(counts).iter().zip(pair.case.numbers()) {
+            let (least, most) = ends.entry(field.name).or_default();
+            *least |= number == field.least;
+            *most |= number == field.most;
+        }
+    }
+    let missed: Vec<_> = ends.iter().filter(|(_, ends)| **ends != (true, true)).collect();
+    assert!(missed.is_empty(), "{missed:?}");
+    assert!(sizes.contains(&(64, 8, 16)) && sizes.contains(&(1, 1, 0)));
+    assert!(sizes.len() > 500, "{} sizes", sizes.len());
+}
+
+#[test]
+fn full_pairs_are_accepted_and_fit() {
+    let mut random = Random::new(27);
+    for index in 0..60 {
+        let counts = Counts { resources: 64, zones: 1 + index % 8, flowgates: index % 17 };
+        let accepted = accepted(&full_pair(&mut random, counts));
+        assert_charges_make_the_gap(&accepted);
+    }
 }

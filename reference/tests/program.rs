@@ -2,6 +2,7 @@
 
 mod common;
 
+use nostwier_reference::damage::random_harm;
 use nostwier_reference::generate::{pair_of_counts, Pair};
 use nostwier_reference::layout::Counts;
 use nostwier_reference::random::Random;
@@ -184,6 +185,25 @@ fn every_subcommand_has_help_and_refuses_odd_arguments() {
     }
     assert!(fault(&[], b"").contains("--help"));
     assert!(fault(&["chek"], b"").contains("chek"));
+}
+
+#[test]
+fn no_input_makes_a_subcommand_panic() {
+    let mut random = Random::new(44);
+    let pair = worked::pair();
+    for _ in 0..15 {
+        let (case, certificate) = random_harm(&mut random, &pair);
+        let inputs = [case.clone(), [case, certificate.clone()].concat(), certificate];
+        for (subcommand, input) in SUBCOMMANDS[..8].iter().zip(inputs.iter().cycle()) {
+            let output = run(&[subcommand], input);
+            let told = [&output.stdout[..], &output.stderr].concat();
+            match output.status.code() {
+                Some(0) => assert_eq!(output.stderr, b""),
+                Some(1 | 2) => assert_eq!(text(&told).lines().count(), 1, "{subcommand}"),
+                other => panic!("{subcommand} ended with {other:?}: {}", text(&told)),
+            }
+        }
+    }
 }
 
 #[cfg(unix)]
