@@ -380,7 +380,7 @@ fn flowgate(random: &mut Random, energies: &[Kw], scale: Scale) -> Flowgate {
         let flow: i64 = factors.iter().zip(energies).map(|(factor, energy)| factor * energy).sum();
         flow.div_euclid(1000) + i64::from(flow.rem_euclid(1000) > 0)
     };
-    // A flow beyond the largest limit loses its greatest parts first.
+    // A flow beyond the largest limit has what drives it halved until it fits.
     while flow(&factors) > MOST {
         for (factor, energy) in factors.iter_mut().zip(energies) {
             if *factor > 0 && *energy > 0 {

@@ -1,6 +1,7 @@
 //! What can be said of `nostwier-solve` without a solver: the programme it
 //! writes, the rounding, and what it tells of wrong use.
 
+use nostwier_reference::case::{flag, Flowgate, Step};
 use nostwier_reference::certificate::{first_above_bound, first_broken};
 use nostwier_reference::generate::{pair_of_scale, Scale};
 use nostwier_reference::layout::Counts;
@@ -60,6 +61,57 @@ fn the_programme_of_k_has_its_rows_and_costs() {
     }
     assert!(!text.contains("INTORG"));
     assert!(mps::text(&Programme::of_case(&worked::pair().case), true).contains("INTORG"));
+}
+
+#[test]
+fn a_priced_programme_lets_rows_be_missed_at_their_highest_price() {
+    let mut case = worked::pair().case;
+    case.counts.flowgates = 1;
+    case.flowgates = vec![Flowgate { limit: 5, factors: vec![-60] }];
+    let text = mps::text(&Programme::of_case(&case).priced(), false);
+    // Row 1 either way, since it is an equation; the others only upwards.
+    for line in [
+        "    S1        COST         400000000",
+        "    S1        R1                   1",
+        "    X1        COST         400000000",
+        "    X1        R1                  -1",
+        "    S10       COST            400000",
+        "    S10       R10                  1",
+        "    S15       COST         400000000",
+        "    S15       R15                  1",
+    ] {
+        assert!(text.lines().any(|other| other == line), "no line '{line}' in\n{text}");
+    }
+    assert_eq!(text.matches(" X").count(), 2);
+    assert!(!mps::text(&Programme::of_case(&case), false).contains(" S1 "));
+}
+
+#[test]
+fn a_held_programme_charges_flowgates_to_the_columns() {
+    let mut case = worked::pair().case;
+    case.counts.flowgates = 1;
+    case.flowgates = vec![Flowgate { limit: 5, factors: vec![-60] }];
+    let mut prices = vec![0; case.counts.row_count()];
+    prices[9] = 200;
+    let text = mps::text(&Programme::of_case(&case).with_flowgate_prices(&prices), false);
+    // Each kW relieves the flowgate by 60 thousandths, at 200 cents: 12,000.
+    assert!(text.contains("    C1        COST           1988000\n"));
+    assert!(text.contains(" G  R10\n"));
+    assert_eq!(text.matches("R10 ").count(), 0);
+}
+
+#[test]
+fn curves_clear_what_the_reserves_bear() {
+    let mut case = worked::pair().case;
+    case.curves[0][0] = Step { width: 7, price: 5 };
+    case.curves[1][0] = Step { width: 30, price: 5 };
+    case.resources[0].flags = flag::SPINNING;
+    let programme = Programme::of_case(&case);
+    let mut amounts = worked::pair().certificate.amounts;
+    amounts[6] = 10;
+    amounts[1] = 4;
+    let cleared = rounding::cleared_to_the_full(&case, &programme, amounts);
+    assert_eq!(cleared[..4], [7, 10, 0, 0]);
 }
 
 #[test]

@@ -36,3 +36,9 @@ fn leaves_little_gap_with_flowgates() {
 fn agrees_with_every_schedule_of_tiny_cases() {
     solving::agrees_with_enumeration(Solver::Cbc);
 }
+
+#[test]
+#[ignore = "needs cbc"]
+fn does_better_than_clipped_duals() {
+    solving::does_better_than_clipped_duals(Solver::Cbc);
+}

@@ -36,3 +36,9 @@ fn leaves_little_gap_with_flowgates() {
 fn agrees_with_every_schedule_of_tiny_cases() {
     solving::agrees_with_enumeration(Solver::Glpsol);
 }
+
+#[test]
+#[ignore = "needs glpsol"]
+fn does_better_than_clipped_duals() {
+    solving::does_better_than_clipped_duals(Solver::Glpsol);
+}

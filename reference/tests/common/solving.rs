@@ -1,10 +1,12 @@
 //! Cases solved by a real solver, for the tests of each.
 
+use nostwier_reference::certificate::Certificate;
 use nostwier_reference::enumerate::cheapest;
 use nostwier_reference::generate::{pair_of_scale, Pair, Scale};
 use nostwier_reference::layout::Counts;
 use nostwier_reference::program::whole_text;
 use nostwier_reference::random::Random;
+use nostwier_reference::solve::programme::Programme;
 use nostwier_reference::solve::solve;
 use nostwier_reference::solve::solver::{Call, Solver};
 use nostwier_reference::worked;
@@ -100,6 +102,36 @@ pub fn leaves_little_gap_with_flowgates(solver: Solver) {
         within_a_cent += usize::from(solved.totals.gap <= CENT);
     }
     assert!(within_a_cent >= 14, "{within_a_cent} of 20 within a cent");
+}
+
+/// Where duals are not whole cents or leave their range, the further prices
+/// that are tried leave less gap than clipped duals would.
+pub fn does_better_than_clipped_duals(solver: Solver) {
+    let mut random = Random::new(64);
+    let call = call(solver, "clipped");
+    let mut with_flowgates = 0;
+    let mut out_of_range = 0;
+    for index in 0..30 {
+        let flowgates = 3 * (index % 2);
+        let counts = Counts { resources: 12, zones: 2, flowgates };
+        let scale = if flowgates > 0 { Scale::COMMON } else { Scale::FULL };
+        let pair = pair_of_scale(&mut random, counts, Scale { edges: 5, ..scale });
+        let solved = solve(&pair.case, &call).expect("a feasible case");
+        let programme = Programme::of_case(&pair.case);
+        let duals = call.linear(&programme, "plain").expect("a feasible case").duals;
+        let clipped = Certificate {
+            row_prices: programme.whole_prices(&duals),
+            ..solved.certificate.clone()
+        };
+        let clipped = super::check(&Pair { certificate: clipped, ..pair }).expect("accepted");
+        assert!(solved.totals.gap <= clipped.gap, "case {index}");
+        if solved.totals.gap < clipped.gap {
+            with_flowgates += usize::from(flowgates > 0);
+            out_of_range += usize::from(flowgates == 0);
+        }
+    }
+    assert!(with_flowgates >= 3, "better in {with_flowgates} cases with flowgates");
+    assert!(out_of_range >= 1, "better in {out_of_range} cases out of range");
 }
 
 /// Tiny cases against every schedule they have.
