@@ -12,6 +12,7 @@ use nostwier_reference::standing::standings;
 use nostwier_reference::worked;
 use std::path::{Path, PathBuf};
 use std::process::{Command, Output};
+use std::sync::{Mutex, MutexGuard, PoisonError};
 
 fn scratch(name: &str) -> PathBuf {
     let path = PathBuf::from(env!("CARGO_TARGET_TMPDIR")).join(name);
@@ -20,7 +21,16 @@ fn scratch(name: &str) -> PathBuf {
     path
 }
 
+/// A program cannot be started while a child just being started still holds
+/// it open for writing, so writing programs and starting them take turns.
+static TURN: Mutex<()> = Mutex::new(());
+
+fn turn() -> MutexGuard<'static, ()> {
+    TURN.lock().unwrap_or_else(PoisonError::into_inner)
+}
+
 fn run(directory: &Path, arguments: &[&str]) -> Output {
+    let _turn = turn();
     Command::new(env!("CARGO_BIN_EXE_nostwier-solve"))
         .args(arguments)
         .current_dir(directory)
@@ -196,6 +206,57 @@ fn wrong_use_is_told_in_a_line() {
         assert!(line.contains(part), "{arguments:?}: {line}");
     }
     assert!(!directory.join("k.cert").exists());
+}
+
+/// A directory with K and a stand-in for each solver that runs this script,
+/// in which `$answer` is the file that the solver should write.
+#[cfg(unix)]
+fn with_stand_ins(name: &str, script: &str) -> PathBuf {
+    use std::os::unix::fs::PermissionsExt;
+    let directory = scratch(name);
+    let _turn = turn();
+    std::fs::write(directory.join("k.case"), worked::pair().case_file()).expect("written");
+    for solver in ["glpsol", "clp", "cbc"] {
+        let path = directory.join(solver);
+        let script = format!("#!/bin/sh\nfor answer; do :; done\n{script}\n");
+        std::fs::write(&path, script).expect("written");
+        std::fs::set_permissions(&path, std::fs::Permissions::from_mode(0o755)).expect("set");
+    }
+    directory
+}
+
+#[cfg(unix)]
+#[test]
+fn odd_answers_of_a_solver_are_told_in_a_line() {
+    for (index, (script, part)) in [
+        ("exit 3", "failed"),
+        ("exit 0", "left no answer"),
+        ("echo > $answer", "cannot read the answer"),
+        ("printf '\\377\\376' > $answer", "left no answer"),
+        ("echo 's bas 14 30 f f 0' > $answer", "cannot read the answer"),
+        ("echo 'Optimal - objective value 0' > $answer; echo '0 R1' >> $answer", "cannot read"),
+        ("echo 'Optimal' > $answer; echo '0 R99999 0 0' >> $answer", "cannot read the answer"),
+        ("echo 'Optimal' > $answer; echo '0 C1 nan 0' >> $answer", "cannot read the answer"),
+    ]
+    .into_iter()
+    .enumerate()
+    {
+        let directory = with_stand_ins(&format!("solve-odd-{index}"), script);
+        for solver in ["glpsol", "clp", "cbc"] {
+            let line = told(&directory, &["k.case", "-o", "k.cert", "--solver", solver], 1);
+            assert!(line.contains(part), "{script}: {line}");
+        }
+        assert!(!directory.join("k.cert").exists());
+    }
+}
+
+#[cfg(unix)]
+#[test]
+fn an_answer_too_far_from_any_schedule_is_told() {
+    // All zero: nothing near it meets demand.
+    let directory = with_stand_ins("solve-far", "echo 'Optimal' > $answer");
+    let line = told(&directory, &["k.case", "-o", "k.cert", "--solver", "clp"], 1);
+    assert!(line.contains("no whole-kW schedule was found"), "{line}");
 }
 
 #[test]

@@ -95,7 +95,7 @@ impl Search<'_> {
             .collect()
     }
 
-    /// Those that bring the given row closer to being kept.
+    /// Whether a change brings the row closer to being kept.
     fn helps(&self, change: Change, row: usize) -> bool {
         let coefficient = self.programme.rows[row].coefficients[change.index];
         let slack = self.slacks[row];
@@ -106,15 +106,15 @@ impl Search<'_> {
     /// more change at its side. Equals are drawn among.
     fn best_for(&mut self, row: usize, step: usize, random: &mut Random) -> Vec<Change> {
         let changes = self.changes(step);
+        let helpful: Vec<Change> =
+            changes.iter().copied().filter(|change| self.helps(*change, row)).collect();
         let mut best: (i64, Vec<Change>) = (i64::MAX, Vec::new());
         let mut consider = |effect: i64, chosen: &[Change]| {
             if effect < best.0 || (effect == best.0 && random.percent(20)) {
                 best = (effect, chosen.to_vec());
             }
         };
-        for first in
-            changes.iter().copied().filter(|change| self.helps(*change, row)).collect::<Vec<_>>()
-        {
+        for first in helpful {
             let effect = self.effect(first);
             consider(effect, &[first]);
             self.make(first);
