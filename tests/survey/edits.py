@@ -42,7 +42,7 @@ EDITS = [
     ("divide_first", "UpperBounds", "RAMP c p r = r .rampRate * c .minutes p * 1000 / c .multiplier p", "RAMP c p r = r .rampRate * c .minutes p / c .multiplier p * 1000", None),
     ("share_hundredths", "UpperBounds", "SHARE c p = c .share p * c .requirement p / 1000", "SHARE c p = c .share p * c .requirement p / 100", None),
     ("bound_without_max", "UpperBounds", "onLineBound c p r = min (RAMP c p r) (min (SHARE c p) (MAX r))", "onLineBound c p r = min (RAMP c p r) (SHARE c p)", None),
-    ("both_flags_wanted", "UpperBounds", "spinningFlag (r .flags) || onLineSupplemental (r .status)", "cond (spinningFlag (r .flags)) (onLineSupplemental (r .status)) (spinningFlag (r .flags))", REFERENCE),
+    ("both_flags_wanted", "UpperBounds", "spinningFlag (r .flags) || onLineSupplemental (r .status)", "cond (spinningFlag (r .flags)) (onLineSupplemental (r .status)) (spinningFlag (r .flags))", None),
     ("regulation_by_contingency", "UpperBounds", "(onLineBound c regulatingReserve r)", "(onLineBound c contingencyReserve r)", None),
     # rows
     ("off_line_spins", "Rows", "spins r = cond (onLine r && spinningFlag (r .flags)) one none", "spins r = cond (spinningFlag (r .flags)) one none", None),
