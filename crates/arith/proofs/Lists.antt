@@ -4,6 +4,7 @@ use mathlib.Core.Bool.{Bool, true, false, _&&_}
 use mathlib.Core.List.{List, [], _∷_, _++_, map, append-assoc}
 use Prim.Native.Nat.{ℕ, zero, suc, _+_, _*_, _<_}
 use native.Mathlib.Decide.{decLt}
+use native.Mathlib.Numerals.{add-one}
 use native.Mathlib.Omega.{arith}
 use lib.Dec.{T}
 use lib.ListN.{length, getD, drop, length-append}
@@ -16,6 +17,18 @@ and-split false b h = absurd h
 pub and-join : (a b : Bool) → T a → T b → T (a && b)
 and-join true b h k = k
 and-join false b h k = absurd h
+
+pub and-assoc : (a b c : Bool) → (a && (b && c)) ≡ ((a && b) && c)
+and-assoc true b c = refl
+and-assoc false b c = refl
+
+pub and-true : (a : Bool) → (a && true) ≡ a
+and-true true = refl
+and-true false = refl
+
+pub and-false : (a : Bool) → (a && false) ≡ false
+and-false true = refl
+and-false false = refl
 
 -- several tests, joined as `a && b && c` is read
 abbrev pub joined : Bool → List Bool → Bool
@@ -111,6 +124,33 @@ pub length-upto : (n : ℕ) → length (upto n) ≡ n
 unfolding upto
 length-upto zero = refl
 length-upto (suc n) = omega (arith, length-append (upto n) (n ∷ []), length-upto n)
+
+-- ---- a test of each number below n, as a loop makes it
+module _ (f : ℕ → Bool) where
+  pub all-append : (xs ys : List ℕ) → all f (xs ++ ys) ≡ (all f xs && all f ys)
+  unfolding all
+  all-append [] ys = refl
+  all-append (x ∷ xs) ys = rw (all-append xs ys) (and-assoc (f x) (all f xs) (all f ys))
+
+  pub all-none : all f (upto 0) ≡ true
+  unfolding all upto
+  all-none = refl
+
+  pub all-upto : (i : ℕ) → all f (upto (i + 1)) ≡ (all f (upto i) && f i)
+  unfolding all upto
+  all-upto i = rw (add-one, all-append (upto i) (i ∷ []), and-true (f i))
+
+  pub all-more : (i : ℕ) → all f (upto i) ≡ true → f i ≡ true → all f (upto (i + 1)) ≡ true
+  all-more i h k = rw (all-upto i, h, k)
+
+  -- one that fails
+  pub all-stop : (n i : ℕ) → i < n → f i ≡ false → all f (upto n) ≡ false
+  all-stop zero i l h = absurd (omega arith)
+  all-stop (suc n) i l h = go (all-stop n i) (decLt i n)
+    where
+      go : (i < n → f i ≡ false → all f (upto n) ≡ false) → Dec (i < n) → all f (upto (suc n)) ≡ false
+      go below (yes k) = rw (← (add-one n), all-upto n, below k h)
+      go below (no k) = let e : n ≡ i = omega arith in rw (← (add-one n), all-upto n, e, h) (and-false (all f (upto i)))
 
 -- ---- of each number below n
 pub each-upto : (Q : ℕ → Type 0) (n : ℕ) → ((i : ℕ) → i < n → Q i) → Each Q (upto n)

@@ -105,3 +105,7 @@ min-yes a b e = ap (λ (t : Bool). cond t a b) e
 pub min-no : (a b : ℤ) → leZ a b ≡ false → minℤ a b ≡ b
 unfolding minℤ
 min-no a b e = ap (λ (t : Bool). cond t a b) e
+
+-- ---- a difference of natural numbers
+pub pos-sub : (m n : ℕ) → n ≤ m → pos m -ℤ pos n ≡ pos (m - n)
+pos-sub m n h = eq-in (omega (arith, add-fact (pos m) (negℤ (pos n)), P-neg (pos n), N-neg (pos n)))

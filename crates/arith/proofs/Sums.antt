@@ -207,3 +207,7 @@ unfolding upto totalOf
 total-weighted f w m zero h = omega arith
 total-weighted f w m (suc n) h =
     omega (arith, total-suc f n, total-suc w n, total-weighted f w m n (λ j l. h j (omega arith)), h n (omega arith), ap (λ (t : ℕ). m * t) (total-suc w n))
+
+-- n terms, each at most m either way
+pub upto-size : (f : ℕ → ℤ) (m n : ℕ) → ((j : ℕ) → j < n → natAbs (f j) ≤ m) → natAbs (sumOf f (upto n)) ≤ n * m
+upto-size f m n h = omega (arith, sum-size f (upto n), total-most (λ j. natAbs (f j)) m n h)

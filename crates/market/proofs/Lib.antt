@@ -19,3 +19,4 @@ pub mod FileSizes
 pub mod FileTrips
 pub mod RoundTrips
 pub mod InOrder
+pub mod FirstFailing

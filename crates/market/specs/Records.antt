@@ -1,4 +1,4 @@
--- The records that code reads by value, as they follow from the figures of a case.
+-- The records that code reads by value, as they follow from the figures of a case and of a certificate.
 use mathlib.Core.List.{[], _∷_}
 use Prim.Native.Nat.{ℕ}
 use lib.IntN.{ℤ, pos}
@@ -17,8 +17,15 @@ use Rattle.market.specs.declared.Starts.{Starts}
 use Rattle.market.specs.declared.ReserveOffers.{ReserveOffers}
 use Rattle.market.specs.declared.ReserveTerms.{ReserveTerms}
 use Rattle.market.specs.declared.ZoneRequirements.{ZoneRequirements}
+use Rattle.market.specs.declared.Amounts.{Amounts}
+use Rattle.market.specs.declared.LimitPrices.{LimitPrices}
+use Rattle.market.specs.declared.CurveAmounts.{CurveAmounts}
+use Rattle.market.specs.declared.ReservePrices.{ReservePrices}
 use Rattle.market.specs.declared.Resource as D
 use Rattle.market.specs.Case.{Case, Resource, Curve, Reserve, operating, regulatingPlusSpinning, regulating, shortTerm}
+use Rattle.market.specs.UpperBounds.{Cleared, Provided, energy, regulation, contingency, onLineShortTerm, offLineShortTerm, Schedule}
+use Rattle.market.specs.Rows.{Row, Limited, maxWithReserve, maxWithShortTerm, minimum, high, low}
+use Rattle.market.specs.Certificate.{Prices}
 
 abbrev pub kw : ℤ → Kw
 kw v = record { 0 = v }
@@ -113,4 +120,48 @@ zoneRequirementsOf c z =
       of =
           power (c .zoneRequirement z operating) ∷ power (c .zoneRequirement z regulatingPlusSpinning)
           ∷ power (c .zoneRequirement z regulating) ∷ power (c .zoneRequirement z shortTerm) ∷ [];
+    }
+
+-- ---- of a certificate
+unfoldable pub amountsOf : Schedule → ℕ → Amounts
+amountsOf x i =
+    record {
+      energy = power (x (Provided i energy));
+      regulation = power (x (Provided i regulation));
+      contingency = power (x (Provided i contingency));
+      «on_line_short_term» = power (x (Provided i onLineShortTerm));
+      «off_line_short_term» = power (x (Provided i offLineShortTerm));
+    }
+
+unfoldable pub limitPricesOf : Prices → ℕ → LimitPrices
+limitPricesOf y i =
+    record {
+      «max_with_reserve» = millicents (y (Limited i maxWithReserve));
+      «max_with_short_term» = millicents (y (Limited i maxWithShortTerm));
+      minimum = millicents (y (Limited i minimum));
+      high = millicents (y (Limited i high));
+      low = millicents (y (Limited i low));
+    }
+
+-- a figure for each curve
+abbrev pub curveAmountsOf : (Curve → ℤ) → CurveAmounts
+curveAmountsOf v =
+    record {
+      operating = kw (v operating);
+      «regulating_plus_spinning» = kw (v regulatingPlusSpinning);
+      regulating = kw (v regulating);
+      «short_term» = kw (v shortTerm);
+    }
+
+unfoldable pub clearedOf : Schedule → CurveAmounts
+clearedOf x = curveAmountsOf (λ k. pos (x (Cleared k)))
+
+-- of the rows that `row` names for each curve: Market, or Zone z
+unfoldable pub reservePricesOf : Prices → (Curve → Row) → ReservePrices
+reservePricesOf y row =
+    record {
+      operating = millicents (y (row operating));
+      «regulating_plus_spinning» = millicents (y (row regulatingPlusSpinning));
+      regulating = millicents (y (row regulating));
+      «short_term» = millicents (y (row shortTerm));
     }

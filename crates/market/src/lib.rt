@@ -227,6 +227,40 @@ pub struct ZoneRequirements {
     pub of: [Kw; 4],
 }
 
+// What a certificate gives a resource.
+pub struct Amounts {
+    pub energy: Kw,
+    pub regulation: Kw,
+    pub contingency: Kw,
+    pub on_line_short_term: Kw,
+    pub off_line_short_term: Kw,
+}
+
+// The prices of a resource's five rows.
+pub struct LimitPrices {
+    pub max_with_reserve: Millicents,
+    pub max_with_short_term: Millicents,
+    pub minimum: Millicents,
+    pub high: Millicents,
+    pub low: Millicents,
+}
+
+// A figure for each demand curve: cleared quantities, or what reserve rows sum to.
+pub struct CurveAmounts {
+    pub operating: Kw,
+    pub regulating_plus_spinning: Kw,
+    pub regulating: Kw,
+    pub short_term: Kw,
+}
+
+// The prices of the four reserve rows, market-wide or of a zone.
+pub struct ReservePrices {
+    pub operating: Millicents,
+    pub regulating_plus_spinning: Millicents,
+    pub regulating: Millicents,
+    pub short_term: Millicents,
+}
+
 // The grounds of refusal, in the order of their numbers; 13 with the quantity's place, 14 with the row's number.
 pub enum Refusal {
     CaseLength,

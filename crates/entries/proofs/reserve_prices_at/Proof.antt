@@ -1,0 +1,21 @@
+use Rattle.entries.specs.CertificateBytes.{reservePricesAt}
+use borrow.Author.Needs.{needs}
+use Rattle.entries.proofs.reserve_prices_at.Statement.{statement}
+use Rattle.entries.proofs.reserve_prices_at.Tie as tie
+
+returns : tie.Need-returns
+unfolding reservePricesAt
+returns c = λ i. record { operating = (c .before .before .before .millicents-at .ensures) i; «regulating_plus_spinning» = (c .before .before .millicents-at2 .ensures) i; regulating = (c .before .millicents-at3 .ensures) i; «short_term» = (c .millicents-at4 .ensures) i }
+
+pub reserve-prices-at-spec : {M : Type 1} → statement M
+reserve-prices-at-spec =
+    tie.close
+    (tie.spec
+    (λ c κs. search needs)
+    (λ c. search needs)
+    (λ c κs. search needs)
+    (λ c. search needs)
+    (λ c κs. search needs)
+    (λ c. search needs)
+    (λ c κs. search needs)
+    returns)

@@ -1,0 +1,20 @@
+use mathlib.Core.List.{[], _∷_}
+use Rattle.market.specs.CaseFile.{caseOf}
+use Rattle.market.specs.Records.{curveStepsOf, curveStepOf}
+use borrow.Author.Needs.{needs}
+use Rattle.records.proofs.curve_at.Statement.{statement}
+use Rattle.records.proofs.curve_at.Tie as tie
+
+returns : tie.Need-returns
+unfolding curveStepsOf curveStepOf caseOf
+returns c = λ k e. rw e (λ i. record { of = (c .before .before .before .curve-step-at .ensures) i ∷ (c .before .before .curve-step-at2 .ensures) i ∷ (c .before .curve-step-at3 .ensures) i ∷ (c .curve-step-at4 .ensures) i ∷ [] })
+
+pub curve-at-spec : {M : Type 1} → statement M
+curve-at-spec =
+    tie.close
+    (tie.spec
+    (λ c κs. search needs)
+    (λ c κs. search needs)
+    (λ c κs. search needs)
+    (λ c κs. search needs)
+    returns)

@@ -1,0 +1,22 @@
+use borrow.Author.Needs.{needs}
+use Rattle.records.proofs.curve_step_at.Statement.{statement}
+use Rattle.records.proofs.curve_step_at.Tie as tie
+
+returns : tie.Need-returns
+returns c = λ i. record { width = (c .before .kw-at .ensures) i; price = (c .cents-at .ensures) i }
+
+pub curve-step-at-spec : {M : Type 1} → statement M
+curve-step-at-spec =
+    tie.close
+    (tie.spec
+    (λ c. search needs)
+    (λ c. search needs)
+    (λ c. search needs)
+    (λ c. search needs)
+    (λ c κs. search needs)
+    (λ c. search needs)
+    (λ c. search needs)
+    (λ c. search needs)
+    (λ c. search needs)
+    (λ c κs. search needs)
+    returns)

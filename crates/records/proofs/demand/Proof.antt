@@ -1,0 +1,11 @@
+use Rattle.market.specs.CaseFile.{caseOf}
+use borrow.Author.Needs.{needs}
+use Rattle.records.proofs.demand.Statement.{statement}
+use Rattle.records.proofs.demand.Tie as tie
+
+returns : tie.Need-returns
+unfolding caseOf
+returns c = c .kw-at .ensures
+
+pub demand-spec : {M : Type 1} → statement M
+demand-spec = tie.close (tie.spec (λ c κs. search needs) returns)

@@ -1,0 +1,24 @@
+use mathlib.Core.Path.{_∙_}
+use Rattle.market.specs.CaseFile.{caseOf}
+use borrow.Author.Needs.{needs}
+use Rattle.records.proofs.flowgate_limit_at.Statement.{statement}
+use Rattle.records.proofs.flowgate_limit_at.Tie as tie
+
+returns : tie.Need-returns
+unfolding caseOf
+returns c = c .signed-kw-at .ensures ∙ rw (c .before .before .pre .resources, c .before .before .pre .zones)
+
+pub flowgate-limit-at-spec : {M : Type 1} → statement M
+flowgate-limit-at-spec =
+    tie.close
+    (tie.spec
+    (λ c. search needs)
+    (λ c. search needs)
+    (λ c. search needs)
+    (λ c. search needs)
+    (λ c. search needs)
+    (λ c. search needs)
+    (λ c. search needs)
+    (λ c. search needs)
+    (λ c κs. search needs)
+    returns)

@@ -1,0 +1,23 @@
+use Rattle.market.specs.CaseFile.{resourceAt}
+use Rattle.market.specs.Records.{offerStepOf}
+use borrow.Author.Needs.{needs}
+use Rattle.records.proofs.offer_step_at.Statement.{statement}
+use Rattle.records.proofs.offer_step_at.Tie as tie
+
+returns : tie.Need-returns
+unfolding offerStepOf resourceAt
+returns c = λ i. record { width = (c .before .kw-at .ensures) i; price = (c .signed-cents-at .ensures) i }
+
+pub offer-step-at-spec : {M : Type 1} → statement M
+offer-step-at-spec =
+    tie.close
+    (tie.spec
+    (λ c. search needs)
+    (λ c. search needs)
+    (λ c. search needs)
+    (λ c κs. search needs)
+    (λ c. search needs)
+    (λ c. search needs)
+    (λ c. search needs)
+    (λ c κs. search needs)
+    returns)

@@ -1,0 +1,21 @@
+use Rattle.market.specs.CaseFile.{resourceAt}
+use Rattle.market.specs.Records.{rampsOf}
+use borrow.Author.Needs.{needs}
+use Rattle.records.proofs.ramps_at.Statement.{statement}
+use Rattle.records.proofs.ramps_at.Tie as tie
+
+returns : tie.Need-returns
+unfolding rampsOf resourceAt
+returns c = λ i. record { up = (c .before .before .kw-at .ensures) i; down = (c .before .kw-at2 .ensures) i; rate = (c .kw-at3 .ensures) i }
+
+pub ramps-at-spec : {M : Type 1} → statement M
+ramps-at-spec =
+    tie.close
+    (tie.spec
+    (λ c. search needs)
+    (λ c κs. search needs)
+    (λ c. search needs)
+    (λ c κs. search needs)
+    (λ c. search needs)
+    (λ c κs. search needs)
+    returns)

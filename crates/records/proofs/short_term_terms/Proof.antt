@@ -1,0 +1,12 @@
+use Rattle.market.specs.CaseFile.{caseOf}
+use Rattle.market.specs.Records.{reserveTermsOf}
+use borrow.Author.Needs.{needs}
+use Rattle.records.proofs.short_term_terms.Statement.{statement}
+use Rattle.records.proofs.short_term_terms.Tie as tie
+
+returns : tie.Need-returns
+unfolding reserveTermsOf caseOf
+returns c = c .terms-at .ensures
+
+pub short-term-terms-spec : {M : Type 1} → statement M
+short-term-terms-spec = tie.close (tie.spec (λ c κs. search needs) returns)

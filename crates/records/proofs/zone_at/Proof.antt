@@ -1,0 +1,20 @@
+use mathlib.Core.List.{[], _∷_}
+use Rattle.market.specs.CaseFile.{caseOf}
+use Rattle.market.specs.Records.{zoneRequirementsOf}
+use borrow.Author.Needs.{needs}
+use Rattle.records.proofs.zone_at.Statement.{statement}
+use Rattle.records.proofs.zone_at.Tie as tie
+
+returns : tie.Need-returns
+unfolding zoneRequirementsOf caseOf
+returns c = λ i. record { of = (c .before .before .before .requirement-at .ensures) i ∷ (c .before .before .requirement-at2 .ensures) i ∷ (c .before .requirement-at3 .ensures) i ∷ (c .requirement-at4 .ensures) i ∷ [] }
+
+pub zone-at-spec : {M : Type 1} → statement M
+zone-at-spec =
+    tie.close
+    (tie.spec
+    (λ c κs. search needs)
+    (λ c κs. search needs)
+    (λ c κs. search needs)
+    (λ c κs. search needs)
+    returns)

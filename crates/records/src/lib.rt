@@ -1,0 +1,288 @@
+// Records out of a case's bytes, by value: resources, zones' requirements, reserve terms, demand curves, demand, flowgates.
+// Each function asks that the bytes it reads are there (specs/Places.antt), and equates its result with the definitions.
+ghost use mathlib.Core.Path.{_≡_};
+ghost use Prim.Native.Nat.{ℕ, _+_, _*_, _<_, _≤_};
+ghost use Rattle.wire.specs.Within.{Within};
+ghost use Rattle.market.specs.Bytes.{u32At, i32At};
+ghost use Rattle.market.specs.Case.{Curve, curveNumber, contingencyReserve, regulatingReserve, shortTermReserve};
+ghost use Rattle.market.specs.CaseFile.{resourceAt, resourcePlace, caseOf};
+ghost use Rattle.market.specs.Records.{kw, cents, power, price, offerStepOf, offerStepsOf, stateOf, outputLimitsOf, rampsOf, startsOf, reserveOffersOf, recordOf, reserveTermsOf, curveStepsOf, zoneRequirementsOf};
+ghost use Rattle.records.specs.Places.{HeadIn, CurveIn, ZoneIn, ResourceIn, FlowgateIn, FactorIn, termsAt, curveStepAt};
+use market::Cents;
+use market::CurveSteps;
+use market::Flags;
+use market::Kw;
+use market::OfferSteps;
+use market::OutputLimits;
+use market::Ramps;
+use market::ReserveOffers;
+use market::ReserveTerms;
+use market::Resource;
+use market::Starts;
+use market::State;
+use market::Status;
+use market::Step;
+use market::ZoneRequirements;
+
+// ---- a figure in its unit
+
+fn kw_at(b: &[u8], at: usize) -> Kw
+    requires { ⌜ Within (now b) at 4 ⌝ }
+    ensures { λ r. ⌜ r ≡ power (u32At (now (b .entry)) at) ⌝ }
+{
+    Kw(wire::u32_at(b, at) as i64)
+}
+
+fn signed_kw_at(b: &[u8], at: usize) -> Kw
+    requires { ⌜ Within (now b) at 4 ⌝ }
+    ensures { λ r. ⌜ r ≡ kw (i32At (now (b .entry)) at) ⌝ }
+{
+    Kw(wire::i32_at(b, at))
+}
+
+fn cents_at(b: &[u8], at: usize) -> Cents
+    requires { ⌜ Within (now b) at 4 ⌝ }
+    ensures { λ r. ⌜ r ≡ price (u32At (now (b .entry)) at) ⌝ }
+{
+    Cents(wire::u32_at(b, at) as i64)
+}
+
+fn signed_cents_at(b: &[u8], at: usize) -> Cents
+    requires { ⌜ Within (now b) at 4 ⌝ }
+    ensures { λ r. ⌜ r ≡ cents (i32At (now (b .entry)) at) ⌝ }
+{
+    Cents(wire::i32_at(b, at))
+}
+
+// ---- a resource, whose 154 bytes begin at `at`
+
+fn state_at(b: &[u8], at: usize) -> State
+    requires { ⌜ Within (now b) at 154 ⌝ }
+    ensures { λ r. ⌜ r ≡ stateOf (resourceAt (now (b .entry)) at) ⌝ }
+{
+    State {
+        kind: wire::u8_at(b, at),
+        zone: wire::u8_at(b, at + 1),
+        breaker: wire::u8_at(b, at + 2),
+        status: Status(wire::u8_at(b, at + 3)),
+        trip: wire::u8_at(b, at + 4),
+        flags: Flags(wire::u8_at(b, at + 5)),
+        output: signed_kw_at(b, at + 6),
+    }
+}
+
+fn limits_at(b: &[u8], at: usize) -> OutputLimits
+    requires { ⌜ Within (now b) at 154 ⌝ }
+    ensures { λ r. ⌜ r ≡ outputLimitsOf (resourceAt (now (b .entry)) at) ⌝ }
+{
+    OutputLimits {
+        economic_min: kw_at(b, at + 10),
+        economic_max: kw_at(b, at + 14),
+        regulating_min: kw_at(b, at + 18),
+        regulating_max: kw_at(b, at + 22),
+        emergency_min: kw_at(b, at + 26),
+        emergency_max: kw_at(b, at + 30),
+    }
+}
+
+fn ramps_at(b: &[u8], at: usize) -> Ramps
+    requires { ⌜ Within (now b) at 154 ⌝ }
+    ensures { λ r. ⌜ r ≡ rampsOf (resourceAt (now (b .entry)) at) ⌝ }
+{
+    Ramps {
+        up: kw_at(b, at + 34),
+        down: kw_at(b, at + 38),
+        rate: kw_at(b, at + 42),
+    }
+}
+
+fn starts_at(b: &[u8], at: usize) -> Starts
+    requires { ⌜ Within (now b) at 154 ⌝ }
+    ensures { λ r. ⌜ r ≡ startsOf (resourceAt (now (b .entry)) at) ⌝ }
+{
+    Starts {
+        initial: kw_at(b, at + 46),
+        off_line_response: kw_at(b, at + 50),
+        off_line_short_term: kw_at(b, at + 54),
+        self_schedule: kw_at(b, at + 58),
+    }
+}
+
+fn reserve_offers_at(b: &[u8], at: usize) -> ReserveOffers
+    requires { ⌜ Within (now b) at 154 ⌝ }
+    ensures { λ r. ⌜ r ≡ reserveOffersOf (resourceAt (now (b .entry)) at) ⌝ }
+{
+    ReserveOffers {
+        regulating: cents_at(b, at + 62),
+        contingency: cents_at(b, at + 66),
+        off_line_short_term: cents_at(b, at + 70),
+    }
+}
+
+fn offer_step_at(b: &[u8], at: usize, j: usize) -> Step
+    requires { ⌜ Within (now b) at 154 × (j < 10) ⌝ }
+    ensures { λ r. ⌜ r ≡ offerStepOf (resourceAt (now (b .entry)) at) j ⌝ }
+{
+    Step {
+        width: kw_at(b, at + 74 + j * 8),
+        price: signed_cents_at(b, at + 78 + j * 8),
+    }
+}
+
+fn offer_steps_at(b: &[u8], at: usize) -> OfferSteps
+    requires { ⌜ Within (now b) at 154 ⌝ }
+    ensures { λ r. ⌜ r ≡ offerStepsOf (resourceAt (now (b .entry)) at) ⌝ }
+{
+    OfferSteps {
+        of: [
+            offer_step_at(b, at, 0),
+            offer_step_at(b, at, 1),
+            offer_step_at(b, at, 2),
+            offer_step_at(b, at, 3),
+            offer_step_at(b, at, 4),
+            offer_step_at(b, at, 5),
+            offer_step_at(b, at, 6),
+            offer_step_at(b, at, 7),
+            offer_step_at(b, at, 8),
+            offer_step_at(b, at, 9),
+        ],
+    }
+}
+
+fn resource_from(b: &[u8], at: usize) -> Resource
+    requires { ⌜ Within (now b) at 154 ⌝ }
+    ensures { λ r. ⌜ r ≡ recordOf (resourceAt (now (b .entry)) at) ⌝ }
+{
+    Resource {
+        state: state_at(b, at),
+        limits: limits_at(b, at),
+        ramps: ramps_at(b, at),
+        starts: starts_at(b, at),
+        offers: reserve_offers_at(b, at),
+        steps: offer_steps_at(b, at),
+    }
+}
+
+// Resource i of a case of so many zones.
+pub fn resource_at(b: &[u8], zones: usize, i: usize) -> Resource
+    requires { ⌜ ResourceIn (now b) zones i ⌝ }
+    ensures { λ r. ⌜ r ≡ recordOf (resourceAt (now (b .entry)) (resourcePlace zones i)) ⌝ }
+{
+    resource_from(b, 170 + zones * 16 + i * 154)
+}
+
+// ---- zones
+
+// Of a zone, for the curve of number k.
+fn requirement_at(b: &[u8], z: usize, k: usize) -> Kw
+    requires { ⌜ ZoneIn (now b) z × (k < 4) ⌝ }
+    ensures { λ r. ⌜ r ≡ power (u32At (now (b .entry)) (170 + z * 16 + k * 4)) ⌝ }
+{
+    kw_at(b, 170 + z * 16 + k * 4)
+}
+
+pub fn zone_at(b: &[u8], z: usize) -> ZoneRequirements
+    requires { ⌜ ZoneIn (now b) z ⌝ }
+    ensures { λ r. ⌜ r ≡ zoneRequirementsOf (caseOf (now (b .entry))) z ⌝ }
+{
+    ZoneRequirements {
+        of: [
+            requirement_at(b, z, 0),
+            requirement_at(b, z, 1),
+            requirement_at(b, z, 2),
+            requirement_at(b, z, 3),
+        ],
+    }
+}
+
+// ---- the head of a case: demand, reserve terms, curves
+
+pub fn demand(b: &[u8]) -> Kw
+    requires { ⌜ HeadIn (now b) ⌝ }
+    ensures { λ r. ⌜ r ≡ power (caseOf (now (b .entry)) .demand) ⌝ }
+{
+    kw_at(b, 8)
+}
+
+// Multiplier and minutes from `pair` on; share and requirement are the n-th of their three.
+fn terms_at(b: &[u8], pair: usize, n: usize) -> ReserveTerms
+    requires { ⌜ HeadIn (now b) × ((pair ≤ 20) × (n < 3)) ⌝ }
+    ensures { λ r. ⌜ r ≡ termsAt (now (b .entry)) pair n ⌝ }
+{
+    ReserveTerms {
+        multiplier: wire::u16_at(b, pair),
+        minutes: wire::u16_at(b, pair + 2),
+        share: wire::u16_at(b, 24 + n * 2),
+        requirement: kw_at(b, 30 + n * 4),
+    }
+}
+
+pub fn contingency_terms(b: &[u8]) -> ReserveTerms
+    requires { ⌜ HeadIn (now b) ⌝ }
+    ensures { λ r. ⌜ r ≡ reserveTermsOf (caseOf (now (b .entry))) contingencyReserve ⌝ }
+{
+    terms_at(b, 12, 1)
+}
+
+pub fn regulating_terms(b: &[u8]) -> ReserveTerms
+    requires { ⌜ HeadIn (now b) ⌝ }
+    ensures { λ r. ⌜ r ≡ reserveTermsOf (caseOf (now (b .entry))) regulatingReserve ⌝ }
+{
+    terms_at(b, 16, 0)
+}
+
+pub fn short_term_terms(b: &[u8]) -> ReserveTerms
+    requires { ⌜ HeadIn (now b) ⌝ }
+    ensures { λ r. ⌜ r ≡ reserveTermsOf (caseOf (now (b .entry))) shortTermReserve ⌝ }
+{
+    terms_at(b, 20, 2)
+}
+
+fn curve_step_at(b: &[u8], k: usize, j: usize) -> Step
+    requires { ⌜ CurveIn (now b) k × (j < 4) ⌝ }
+    ensures { λ r. ⌜ r ≡ curveStepAt (now (b .entry)) k j ⌝ }
+{
+    Step {
+        width: kw_at(b, 42 + k * 32 + j * 8),
+        price: cents_at(b, 46 + k * 32 + j * 8),
+    }
+}
+
+// The curve of number k.
+pub fn curve_at(b: &[u8], k: usize) -> CurveSteps
+    requires { ⌜ CurveIn (now b) k ⌝ }
+    ensures { λ r. ⌜ ((c : Curve) → curveNumber c ≡ k → r ≡ curveStepsOf (caseOf (now (b .entry))) c) ⌝ }
+{
+    CurveSteps {
+        of: [
+            curve_step_at(b, k, 0),
+            curve_step_at(b, k, 1),
+            curve_step_at(b, k, 2),
+            curve_step_at(b, k, 3),
+        ],
+    }
+}
+
+// ---- flowgates
+
+// Flowgate f of a case that counts so many resources and zones.
+pub fn flowgate_limit_at(b: &[u8], resources: usize, zones: usize, f: usize) -> Kw
+    requires { ⌜ FlowgateIn (now b) resources zones f ⌝ }
+    ensures { λ r. ⌜ r ≡ kw (caseOf (now (b .entry)) .flowgateLimit f) ⌝ }
+{
+    signed_kw_at(
+        b,
+        170 + zones * 16 + resources * 154 + f * (4 + resources * 2),
+    )
+}
+
+// In thousandths.
+pub fn shift_factor_at(b: &[u8], resources: usize, zones: usize, f: usize, i: usize) -> i64
+    requires { ⌜ FactorIn (now b) resources zones f i ⌝ }
+    ensures { λ r. ⌜ r ≡ caseOf (now (b .entry)) .shiftFactor f i ⌝ }
+{
+    wire::i16_at(
+        b,
+        170 + zones * 16 + resources * 154 + f * (4 + resources * 2) + 4 + i * 2,
+    )
+}

@@ -1,0 +1,12 @@
+-- What a sum, a difference and a product of signed 64-bit figures ask for, so that they fit.
+use Prim.Native.Nat.{_+_, _*_, _<_}
+use lib.IntN.{ℤ, natAbs}
+use Rattle.market.specs.Fits.{range64}
+
+abbrev pub SumRoom : ℤ → ℤ → Type 0
+SumRoom a b = (natAbs a + natAbs b) < range64
+
+pub record ProductRoom (a b : ℤ) : Type 0 where
+  pub left : natAbs a < range64
+  pub right : natAbs b < range64
+  pub product : (natAbs a * natAbs b) < range64

@@ -1,0 +1,66 @@
+// Big-endian numbers at a place of a slice of bytes. Each reader asks that the bytes it reads lie within the slice.
+ghost use mathlib.Core.Path.{_≡_};
+ghost use Prim.Native.Nat.{ℕ, _+_, _<_, _≤_};
+ghost use Rattle.market.specs.Bytes.{u8At, u16At, u32At, signed, i16At, i32At};
+ghost use Rattle.wire.specs.Within.{Within};
+
+fn wide(x: u8) -> u32
+    ensures { λ r. ⌜ (r ≡ x) × (r < 256) ⌝ }
+{
+    x as u32
+}
+
+pub fn u8_at(b: &[u8], at: usize) -> u8
+    requires { ⌜ Within (now b) at 1 ⌝ }
+    ensures { λ r. ⌜ r ≡ u8At (now (b .entry)) at ⌝ }
+{
+    b[at]
+}
+
+pub fn u16_at(b: &[u8], at: usize) -> u32
+    requires { ⌜ Within (now b) at 2 ⌝ }
+    ensures { λ r. ⌜ (r ≡ u16At (now (b .entry)) at) × (r < 65536) ⌝ }
+{
+    let x = wide(b[at]);
+    let y = wide(b[at + 1]);
+    x * 256 + y
+}
+
+pub fn u32_at(b: &[u8], at: usize) -> u32
+    requires { ⌜ Within (now b) at 4 ⌝ }
+    ensures { λ r. ⌜ r ≡ u32At (now (b .entry)) at ⌝ }
+{
+    let x = wide(b[at]);
+    let y = wide(b[at + 1]);
+    let z = wide(b[at + 2]);
+    let w = wide(b[at + 3]);
+    x * 16777216 + y * 65536 + z * 256 + w
+}
+
+// Two's complement of a width whose half range is `half`.
+fn twos_complement(n: u32, half: u32) -> i64
+    requires { ⌜ (n < half + half) × (half ≤ 2147483648) ⌝ }
+    ensures { λ r. ⌜ r ≡ signed half n ⌝ }
+{
+    if n < half {
+        return n as i64;
+    }
+    let range = half as i64 + half as i64;
+    n as i64 - range
+}
+
+pub fn i16_at(b: &[u8], at: usize) -> i64
+    requires { ⌜ Within (now b) at 2 ⌝ }
+    ensures { λ r. ⌜ r ≡ i16At (now (b .entry)) at ⌝ }
+{
+    let n = u16_at(b, at);
+    twos_complement(n, 32768)
+}
+
+pub fn i32_at(b: &[u8], at: usize) -> i64
+    requires { ⌜ Within (now b) at 4 ⌝ }
+    ensures { λ r. ⌜ r ≡ i32At (now (b .entry)) at ⌝ }
+{
+    let n = u32_at(b, at);
+    twos_complement(n, 2147483648)
+}
