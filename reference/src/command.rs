@@ -7,9 +7,10 @@ use crate::operations;
 use crate::program::{self, LONGEST_INPUT};
 use crate::random::Random;
 use crate::refusal::Failure;
+use crate::vectors::{corpus_calls, Call, Files, Operation, Source};
 use std::ffi::OsString;
-use std::io::{Read, Write};
-use std::path::Path;
+use std::io::{BufWriter, Read, Write};
+use std::path::{Path, PathBuf};
 use std::process::ExitCode;
 
 const HELP: &str = "\
@@ -25,6 +26,7 @@ Reads standard input and prints to standard output.
   write-case         numbers, a line each: the bytes of the case
   write-certificate  numbers, a line each: the bytes of the certificate
   generate           random cases and certificates, into files
+  vectors            calls with their expected answers, for a host of the library
 
 A refusal is printed as 'refused N' or 'refused N PLACE' with exit status 1;
 a fault of use is told on standard error with exit status 2.
@@ -105,7 +107,7 @@ struct Subcommand {
     run: fn(&[String]) -> Result<Vec<u8>, Trouble>,
 }
 
-const SUBCOMMANDS: [Subcommand; 9] = [
+const SUBCOMMANDS: [Subcommand; 10] = [
     Subcommand {
         name: "check",
         help: "\
@@ -202,6 +204,20 @@ Three of four pairs are accepted, the others are damaged in some way.
   --size R Z F   so many resources, zones and flowgates in every case
 ",
         run: generate,
+    },
+    Subcommand {
+        name: "vectors",
+        help: "\
+Usage: nostwier-reference vectors SEED COUNT [--corpus DIR] OPERATION..
+
+Writes COUNT calls with their expected answers as binary records, the operations
+taking turns; the same seed gives the same records. The operations are case,
+certificate, prices, charges, read-case, read-certificate, write-case and
+write-certificate. The README of the reference has the form of a record.
+  --corpus DIR   first the calls of each operation with every pair of files
+                 NAME.case and NAME.cert in DIR; COUNT does not count them
+",
+        run: vectors,
     },
 ];
 
@@ -345,15 +361,9 @@ fn generate_order(arguments: &[String]) -> Result<Order, Trouble> {
     let [seed, count, directory, options @ ..] = arguments else {
         return fault("generate wants SEED COUNT DIR; see generate --help");
     };
-    let Ok(seed) = seed.parse() else {
-        return fault("SEED is not an unsigned 64-bit number");
-    };
-    let Ok(count) = count.parse::<u32>() else {
-        return fault("COUNT is not a number from 0 to 4294967295");
-    };
     let mut order = Order {
-        seed,
-        count: count as usize,
+        seed: seed_number(seed)?,
+        count: count_number(count)?,
         directory: directory.clone(),
         manner: Manner::Mixed,
         counts: None,
@@ -375,6 +385,17 @@ fn generate_order(arguments: &[String]) -> Result<Order, Trouble> {
         }
     }
     Ok(order)
+}
+
+fn seed_number(text: &str) -> Result<u64, Trouble> {
+    text.parse().or_else(|_| fault("SEED is not an unsigned 64-bit number"))
+}
+
+fn count_number(text: &str) -> Result<usize, Trouble> {
+    match text.parse::<u32>() {
+        Ok(count) => Ok(count as usize),
+        Err(_) => fault("COUNT is not a number from 0 to 4294967295"),
+    }
 }
 
 fn size(resources: &str, zones: &str, flowgates: &str) -> Result<Counts, Trouble> {
@@ -415,4 +436,105 @@ fn write_file(directory: &str, name: &str, bytes: &[u8]) -> Result<(), Trouble> 
         Ok(()) => Ok(()),
         Err(error) => fault(format!("cannot write '{}': {error}", path.display())),
     }
+}
+
+/// What `vectors` was asked for.
+struct VectorOrder {
+    seed: u64,
+    count: usize,
+    corpus: Option<String>,
+    operations: Vec<Operation>,
+}
+
+/// The records go out as they are made: there can be gigabytes of them.
+fn vectors(arguments: &[String]) -> Result<Vec<u8>, Trouble> {
+    let order = vector_order(arguments)?;
+    let pairs = match &order.corpus {
+        Some(directory) => corpus_pairs(directory)?,
+        None => Vec::new(),
+    };
+    let mut out = BufWriter::with_capacity(1 << 16, std::io::stdout().lock());
+    for files in &pairs {
+        for operation in &order.operations {
+            for call in corpus_calls(*operation, files) {
+                write_record(&mut out, &call)?;
+            }
+        }
+    }
+    let mut source = Source::new(order.seed);
+    for operation in order.operations.iter().cycle().take(order.count) {
+        write_record(&mut out, &source.call(*operation))?;
+    }
+    match out.flush() {
+        Ok(()) => Ok(Vec::new()),
+        Err(error) => fault(format!("cannot write to standard output: {error}")),
+    }
+}
+
+fn write_record(out: &mut impl Write, call: &Call) -> Result<(), Trouble> {
+    let mut record = Vec::new();
+    call.record(&mut record)?;
+    match out.write_all(&record) {
+        Ok(()) => Ok(()),
+        Err(error) => fault(format!("cannot write to standard output: {error}")),
+    }
+}
+
+fn vector_order(arguments: &[String]) -> Result<VectorOrder, Trouble> {
+    let [seed, count, options @ ..] = arguments else {
+        return fault("vectors wants SEED COUNT OPERATION..; see vectors --help");
+    };
+    let mut order = VectorOrder {
+        seed: seed_number(seed)?,
+        count: count_number(count)?,
+        corpus: None,
+        operations: Vec::new(),
+    };
+    let mut left = options;
+    while let [option, rest @ ..] = left {
+        left = rest;
+        if option == "--corpus" && order.corpus.is_none() {
+            let [directory, rest @ ..] = rest else {
+                return fault("--corpus wants a directory");
+            };
+            order.corpus = Some(directory.clone());
+            left = rest;
+        } else {
+            match Operation::from_name(option) {
+                Some(operation) if !order.operations.contains(&operation) => {
+                    order.operations.push(operation);
+                }
+                _ => return fault(format!("unexpected argument '{}'", option.escape_debug())),
+            }
+        }
+    }
+    if order.operations.is_empty() {
+        return fault("vectors wants one operation at least; see vectors --help");
+    }
+    Ok(order)
+}
+
+/// The pairs of files in a directory, in the order of their names.
+fn corpus_pairs(directory: &str) -> Result<Vec<Files>, Trouble> {
+    let cannot_read = |path: &Path, error: std::io::Error| {
+        Trouble::Fault(format!("cannot read '{}': {error}", path.display()))
+    };
+    let directory = Path::new(directory);
+    let entries = std::fs::read_dir(directory).map_err(|error| cannot_read(directory, error))?;
+    let mut paths = Vec::new();
+    for entry in entries {
+        let path = entry.map_err(|error| cannot_read(directory, error))?.path();
+        if path.extension().is_some_and(|extension| extension == "case") {
+            paths.push(path);
+        }
+    }
+    if paths.is_empty() {
+        return fault(format!("no file NAME.case in '{}'", directory.display()));
+    }
+    paths.sort();
+    let read = |path: &Path| std::fs::read(path).map_err(|error| cannot_read(path, error));
+    let pair = |path: &PathBuf| {
+        Ok(Files { case: read(path)?, certificate: read(&path.with_extension("cert"))? })
+    };
+    paths.iter().map(pair).collect()
 }

@@ -23,6 +23,7 @@ pub mod rows;
 pub mod solve;
 pub mod standing;
 pub mod units;
+pub mod vectors;
 pub mod worked;
 
 pub use case_check::check_case;

@@ -11,7 +11,7 @@ use std::io::Write;
 use std::path::PathBuf;
 use std::process::{Command, Output, Stdio};
 
-const SUBCOMMANDS: [&str; 9] = [
+const SUBCOMMANDS: [&str; 10] = [
     "check",
     "case",
     "prices",
@@ -21,6 +21,7 @@ const SUBCOMMANDS: [&str; 9] = [
     "write-case",
     "write-certificate",
     "generate",
+    "vectors",
 ];
 
 fn run(arguments: &[&str], input: &[u8]) -> Output {

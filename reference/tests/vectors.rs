@@ -1,0 +1,441 @@
+//! The vectors for a host, taken apart record by record.
+
+use nostwier_reference::layout::{self, Counts};
+use nostwier_reference::{
+    charges, check_case, check_certificate, prices, read_case, read_certificate, worked,
+    write_case, write_certificate, Failure, Totals,
+};
+use std::collections::BTreeSet;
+use std::path::PathBuf;
+use std::process::{Command, Output};
+
+const OPERATIONS: [&str; 8] = [
+    "case",
+    "certificate",
+    "prices",
+    "charges",
+    "read-case",
+    "read-certificate",
+    "write-case",
+    "write-certificate",
+];
+
+fn run(arguments: &[&str]) -> Output {
+    Command::new(env!("CARGO_BIN_EXE_nostwier-reference"))
+        .arg("vectors")
+        .args(arguments)
+        .output()
+        .expect("the program starts")
+}
+
+fn good(arguments: &[&str]) -> Vec<u8> {
+    let output = run(arguments);
+    assert_eq!(String::from_utf8_lossy(&output.stderr), "", "{arguments:?}");
+    assert!(output.status.success(), "{arguments:?}");
+    output.stdout
+}
+
+fn fault(arguments: &[&str]) -> String {
+    let output = run(arguments);
+    assert_eq!(output.status.code(), Some(2), "{arguments:?}");
+    assert!(output.stdout.is_empty(), "{arguments:?}");
+    String::from_utf8(output.stderr).expect("text")
+}
+
+/// A directory of its own for one test, empty.
+fn scratch(name: &str) -> PathBuf {
+    let path = PathBuf::from(env!("CARGO_TARGET_TMPDIR")).join(name);
+    let _ = std::fs::remove_dir_all(&path);
+    std::fs::create_dir_all(&path).expect("made");
+    path
+}
+
+/// A record as a host reads it.
+struct Record {
+    operation: u8,
+    /// The first input; of writers, no bytes but numbers.
+    bytes: Vec<u8>,
+    numbers: Vec<i64>,
+    certificate: Vec<u8>,
+    room: usize,
+    refusal: u32,
+    place: u32,
+    totals: [i64; 3],
+    /// What is written; of writers, no numbers but bytes.
+    written: Vec<i64>,
+    written_bytes: Vec<u8>,
+}
+
+struct Stream<'a>(&'a [u8]);
+
+impl Stream<'_> {
+    fn bytes(&mut self, count: usize) -> Vec<u8> {
+        let (taken, rest) = self.0.split_at(count);
+        self.0 = rest;
+        taken.to_vec()
+    }
+
+    fn u32(&mut self) -> u32 {
+        u32::from_be_bytes(self.bytes(4).try_into().expect("four"))
+    }
+
+    fn i64(&mut self) -> i64 {
+        i64::from_be_bytes(self.bytes(8).try_into().expect("eight"))
+    }
+
+    fn numbers(&mut self, count: usize) -> Vec<i64> {
+        (0..count).map(|_| self.i64()).collect()
+    }
+
+    fn record(&mut self) -> Record {
+        let operation = self.bytes(1)[0];
+        let writes_bytes = operation >= 7;
+        let [first, second, room] = [self.u32() as usize, self.u32() as usize, self.u32() as usize];
+        let bytes = if writes_bytes { Vec::new() } else { self.bytes(first) };
+        let numbers = if writes_bytes { self.numbers(first) } else { Vec::new() };
+        let certificate = self.bytes(second);
+        let [refusal, place] = [self.u32(), self.u32()];
+        let totals = [self.i64(), self.i64(), self.i64()];
+        let count = self.u32() as usize;
+        let written = if writes_bytes { Vec::new() } else { self.numbers(count) };
+        let written_bytes = if writes_bytes { self.bytes(count) } else { Vec::new() };
+        Record {
+            operation,
+            bytes,
+            numbers,
+            certificate,
+            room,
+            refusal,
+            place,
+            totals,
+            written,
+            written_bytes,
+        }
+    }
+}
+
+fn records(arguments: &[&str]) -> Vec<Record> {
+    let bytes = good(arguments);
+    let mut stream = Stream(&bytes);
+    let mut list = Vec::new();
+    while !stream.0.is_empty() {
+        list.push(stream.record());
+    }
+    list
+}
+
+/// COUNT records of one operation.
+fn of_operation(operation: &str, count: &str) -> Vec<Record> {
+    let list = records(&["7", count, operation]);
+    assert_eq!(list.len().to_string(), count);
+    list
+}
+
+/// K, as the only pair of a corpus.
+fn corpus_of_k(name: &str) -> String {
+    let directory = scratch(name);
+    std::fs::write(directory.join("k.case"), worked::pair().case_file()).expect("written");
+    std::fs::write(directory.join("k.cert"), worked::pair().certificate_file()).expect("written");
+    std::fs::write(directory.join("k.expected"), b"not a case").expect("written");
+    directory.to_str().expect("text").to_string()
+}
+
+fn words(numbers: &[u32]) -> Vec<u8> {
+    numbers.iter().flat_map(|number| number.to_be_bytes()).collect()
+}
+
+fn longs(numbers: &[i64]) -> Vec<u8> {
+    numbers.iter().flat_map(|number| number.to_be_bytes()).collect()
+}
+
+#[test]
+fn the_records_of_k_byte_for_byte() {
+    let corpus = corpus_of_k("vectors-k");
+    let case = worked::pair().case_file();
+    let certificate = worked::pair().certificate_file();
+    assert_eq!((case.len(), certificate.len()), (340, 100));
+    let nothing = [0; 24 + 4];
+
+    let expected = [&[1][..], &words(&[340, 0, 0]), &case, &words(&[0, 0]), &nothing].concat();
+    assert_eq!(good(&["1", "0", "--corpus", &corpus, "case"]), expected);
+
+    let totals = longs(&[140_000_000_000, 140_000_000_000, 0]);
+    let expected = [
+        &[2][..],
+        &words(&[340, 100, 0]),
+        &case,
+        &certificate,
+        &words(&[0, 0]),
+        &totals,
+        &words(&[0]),
+    ]
+    .concat();
+    assert_eq!(good(&["1", "0", "--corpus", &corpus, "certificate"]), expected);
+
+    // A buffer too short by one, one of the right length, and a longer one.
+    let lent = |room| [&[3][..], &words(&[340, 100, room]), &case, &certificate].concat();
+    let priced =
+        [&words(&[0, 0])[..], &longs(&[0, 0, 0]), &words(&[5]), &longs(&[3_000_000, 0, 0, 0, 0])]
+            .concat();
+    let expected =
+        [lent(4), words(&[15, 0]), nothing.to_vec(), lent(5), priced.clone(), lent(12), priced]
+            .concat();
+    assert_eq!(good(&["1", "0", "prices", "--corpus", &corpus]), expected);
+}
+
+#[test]
+fn the_numbers_of_k_go_to_and_fro() {
+    let corpus = corpus_of_k("vectors-k-numbers");
+    let read = records(&["1", "0", "--corpus", &corpus, "read-case", "read-certificate"]);
+    let written = records(&["1", "0", "--corpus", &corpus, "write-case", "write-certificate"]);
+    assert_eq!((read.len(), written.len()), (6, 6));
+    assert_eq!([read[1].room, read[4].room], [95, 26]);
+    assert_eq!(read[1].written[..5], [1, 1, 0, 60_000, 1000]);
+    assert_eq!(read[4].written[..8], [1, 1, 0, 0, 0, 0, 0, 3_000_000]);
+    for (read, written) in read.iter().zip(&written) {
+        assert_eq!(written.operation, read.operation + 2);
+        assert_eq!(written.refusal, read.refusal);
+        assert_eq!(
+            written.written_bytes.len(),
+            if read.refusal == 0 { read.bytes.len() } else { 0 }
+        );
+    }
+    assert_eq!(written[1].numbers, read[1].written);
+    assert_eq!(written[1].written_bytes, read[1].bytes);
+    assert_eq!(written[4].numbers, read[4].written);
+    assert_eq!(written[5].written_bytes, read[5].bytes);
+}
+
+#[test]
+fn a_seed_gives_the_same_records_and_another_seed_others() {
+    let all = |seed, count| good(&[&[seed, count], &OPERATIONS[..]].concat());
+    let one = all("3", "400");
+    assert_eq!(one, all("3", "400"));
+    assert_ne!(one, all("4", "400"));
+    assert_eq!(one[..10_000], all("3", "200")[..10_000]);
+}
+
+#[test]
+fn operations_take_turns_after_the_corpus() {
+    let corpus = corpus_of_k("vectors-turns");
+    let list = records(&["1", "7", "charges", "write-case", "--corpus", &corpus, "case"]);
+    let operations: Vec<u8> = list.iter().map(|record| record.operation).collect();
+    assert_eq!(operations, [4, 4, 4, 7, 7, 7, 1, 4, 7, 1, 4, 7, 1, 4]);
+}
+
+/// Each answer once more, from the operations, with a buffer that is not empty.
+#[test]
+fn the_answers_are_those_of_the_operations() {
+    let all = [&["11", "6000"], &OPERATIONS[..]].concat();
+    for (index, record) in records(&all).iter().enumerate() {
+        let Record { bytes, numbers, certificate, .. } = record;
+        let mut out = vec![-7; record.room];
+        let mut out_bytes = vec![77; record.room];
+        let outcome = match record.operation {
+            1 => check_case(bytes).map(|_| 0).map_err(Failure::from),
+            2 => check_certificate(bytes, certificate).map(|totals| {
+                let Totals { cost, bound, gap } = totals;
+                assert_eq!(record.totals, [cost, bound, gap]);
+                0
+            }),
+            3 => prices(bytes, certificate, &mut out),
+            4 => charges(bytes, certificate, &mut out),
+            5 => read_case(bytes, &mut out).map_err(Failure::from),
+            6 => read_certificate(bytes, &mut out).map_err(Failure::from),
+            7 => write_case(numbers, &mut out_bytes).map_err(Failure::from),
+            8 => write_certificate(numbers, &mut out_bytes).map_err(Failure::from),
+            other => panic!("operation {other}"),
+        };
+        match outcome {
+            Ok(count) if record.operation >= 7 => {
+                assert_eq!((record.refusal, record.place), (0, 0), "{index}");
+                assert_eq!(record.written_bytes, out_bytes[..count], "{index}");
+            }
+            Ok(count) => {
+                assert_eq!((record.refusal, record.place), (0, 0), "{index}");
+                assert_eq!(record.written, out[..count], "{index}");
+            }
+            Err(Failure::Refused(refusal)) => {
+                assert_eq!(record.refusal, refusal.number(), "{index}");
+                assert_eq!(record.place as usize, refusal.place().unwrap_or(0), "{index}");
+                assert_eq!(record.totals, [0; 3], "{index}");
+                assert!(record.written.is_empty() && record.written_bytes.is_empty(), "{index}");
+            }
+            Err(failure) => panic!("{failure}"),
+        }
+    }
+}
+
+#[test]
+fn every_refusal_of_every_operation_is_met() {
+    let up_to = |last: u32, further: &[u32]| (0..=last).chain(further.iter().copied()).collect();
+    let expected: [Vec<u32>; 8] = [
+        up_to(7, &[]),
+        up_to(14, &[]),
+        up_to(15, &[]),
+        up_to(15, &[]),
+        up_to(7, &[15]),
+        vec![0, 3, 8, 9, 11, 15],
+        vec![0, 3, 5, 6, 7, 15, 16],
+        vec![0, 3, 15, 16],
+    ];
+    for (operation, expected) in OPERATIONS.into_iter().zip(expected) {
+        let met: BTreeSet<u32> =
+            of_operation(operation, "4000").iter().map(|record| record.refusal).collect();
+        assert_eq!(met.into_iter().collect::<Vec<_>>(), expected, "{operation}");
+    }
+}
+
+/// The end of its range that a number lies past, and the field's name, if it is
+/// the only one of the file.
+fn only_field_past_an_end(
+    file: &[u8],
+    fields: fn(Counts) -> Vec<layout::Field>,
+) -> Option<(&'static str, bool)> {
+    let fields = fields(layout::announced_counts(file)?);
+    let numbers = layout::read_fields(file, &fields);
+    let mut past = fields.iter().zip(&numbers).filter(|(field, number)| !field.allows(**number));
+    let (field, number) = past.next()?;
+    past.next().is_none().then_some((field.name, *number > field.most))
+}
+
+/// Every field past each end that its bytes can pass.
+fn every_end(fields: fn(Counts) -> Vec<layout::Field>) -> BTreeSet<(&'static str, bool)> {
+    let mut ends = BTreeSet::new();
+    for field in fields(Counts { resources: 1, zones: 1, flowgates: 1 }) {
+        for (number, upper) in [(field.least - 1, false), (field.most + 1, true)] {
+            if field.width.holds(number) {
+                ends.insert((field.name, upper));
+            }
+        }
+    }
+    ends
+}
+
+#[test]
+fn every_field_is_met_past_each_end() {
+    let met: BTreeSet<_> = of_operation("case", "12000")
+        .iter()
+        .filter(|record| record.refusal == 5)
+        .filter_map(|record| only_field_past_an_end(&record.bytes, layout::case_fields))
+        .collect();
+    assert_eq!(met, every_end(layout::case_fields));
+    let met: BTreeSet<_> = of_operation("certificate", "20000")
+        .iter()
+        .filter(|record| record.refusal == 12)
+        .filter_map(|record| {
+            only_field_past_an_end(&record.certificate, layout::certificate_fields)
+        })
+        .collect();
+    assert_eq!(met, every_end(layout::certificate_fields));
+}
+
+#[test]
+fn buffers_are_of_every_kind() {
+    for operation in &OPERATIONS[2..] {
+        let list = of_operation(operation, "2000");
+        let filled = |record: &Record| record.written.len() + record.written_bytes.len();
+        let good = || list.iter().filter(|record| record.refusal == 0);
+        assert!(good().any(|record| record.room == filled(record)), "{operation}: exact");
+        assert!(good().any(|record| record.room > filled(record)), "{operation}: longer");
+        let short = || list.iter().filter(|record| record.refusal == 15);
+        assert!(short().any(|record| record.room == 0), "{operation}: empty");
+        // One more item of room would do.
+        let one_short = |record: &&Record| {
+            let enough = record.room + 1;
+            match *operation {
+                "prices" => {
+                    prices(&record.bytes, &record.certificate, &mut vec![0; enough]).is_ok()
+                }
+                "charges" => {
+                    charges(&record.bytes, &record.certificate, &mut vec![0; enough]).is_ok()
+                }
+                "read-case" => read_case(&record.bytes, &mut vec![0; enough]).is_ok(),
+                "read-certificate" => read_certificate(&record.bytes, &mut vec![0; enough]).is_ok(),
+                "write-case" => write_case(&record.numbers, &mut vec![0; enough]).is_ok(),
+                _ => write_certificate(&record.numbers, &mut vec![0; enough]).is_ok(),
+            }
+        };
+        assert!(short().any(|record| one_short(&record)), "{operation}: one short");
+    }
+}
+
+#[test]
+fn lists_for_writers_are_damaged_in_every_way() {
+    for (operation, fields) in [
+        ("write-case", layout::case_fields as fn(Counts) -> Vec<layout::Field>),
+        ("write-certificate", layout::certificate_fields),
+    ] {
+        let mut met = BTreeSet::new();
+        for record in of_operation(operation, "6000") {
+            let counts = match record.numbers[..] {
+                [resources, zones, flowgates, ..] => {
+                    Counts::within_range(resources, zones, flowgates)
+                }
+                _ => None,
+            };
+            let Some(fields) = counts.map(fields) else {
+                met.insert(if record.numbers.len() < 3 { "under three" } else { "counts" });
+                continue;
+            };
+            let rest = &record.numbers[3..];
+            match rest.len() as i64 - fields.len() as i64 {
+                -1 => drop(met.insert("one short")),
+                1 => drop(met.insert("one long")),
+                0 => {}
+                _ => continue,
+            }
+            for (field, number) in fields.iter().zip(rest) {
+                let (lowest, highest) = field.width.ends();
+                for (what, there) in [
+                    ("the least", field.least),
+                    ("the most", field.most),
+                    ("past the least", field.least - 1),
+                    ("past the most", field.most + 1),
+                    ("the lowest that fits", lowest),
+                    ("the highest that fits", highest),
+                    ("past the lowest", lowest - 1),
+                    ("past the highest", highest + 1),
+                    ("the lowest of 64 bits", i64::MIN),
+                    ("the highest of 64 bits", i64::MAX),
+                ] {
+                    if *number == there {
+                        met.insert(what);
+                    }
+                }
+            }
+        }
+        assert_eq!(met.len(), 14, "{operation}: {met:?}");
+    }
+}
+
+#[test]
+fn cases_are_small_and_large() {
+    let accepted: BTreeSet<Vec<u8>> = of_operation("certificate", "3000")
+        .into_iter()
+        .filter(|record| record.refusal == 0)
+        .map(|record| record.bytes[5..8].to_vec())
+        .collect();
+    assert!(accepted.contains(&vec![1, 1, 0]) && accepted.contains(&vec![64, 8, 16]));
+    assert!(accepted.len() >= 30, "{} sizes", accepted.len());
+}
+
+#[test]
+fn vectors_tell_what_is_wrong() {
+    assert!(fault(&[]).contains("SEED COUNT"));
+    assert!(fault(&["1", "1"]).contains("operation"));
+    assert!(fault(&["x", "1", "case"]).contains("SEED"));
+    assert!(fault(&["1", "-1", "case"]).contains("COUNT"));
+    assert!(fault(&["1", "1", "cases"]).contains("cases"));
+    assert!(fault(&["1", "1", "case", "case"]).contains("case"));
+    assert!(fault(&["1", "1", "case", "--corpus"]).contains("directory"));
+    let directory = scratch("vectors-wrong");
+    let path = directory.to_str().expect("text");
+    assert!(fault(&["1", "1", "case", "--corpus", path]).contains("NAME.case"));
+    std::fs::write(directory.join("a.case"), b"").expect("written");
+    assert!(fault(&["1", "1", "case", "--corpus", path]).contains("a.cert"));
+    let missing = directory.join("missing");
+    assert!(
+        fault(&["1", "1", "case", "--corpus", missing.to_str().expect("text")]).contains("missing")
+    );
+}
