@@ -24,7 +24,7 @@ const GROUPS: [Group; 3] = [
     Group { pairs: 160, chance: 76, most: Counts { resources: 4, zones: 3, flowgates: 3 } },
     Group { pairs: 40, chance: 18, most: Counts { resources: 12, zones: 4, flowgates: 6 } },
     Group {
-        pairs: 10,
+        pairs: 6,
         chance: 6,
         most: Counts { resources: MOST_RESOURCES, zones: MOST_ZONES, flowgates: MOST_FLOWGATES },
     },
@@ -114,11 +114,11 @@ impl Source {
     }
 }
 
-/// The first two pairs of a group are of the least and of the greatest size.
+/// The first two pairs of a group are of the greatest and of the least size.
 fn base(random: &mut Random, group: &Group, index: usize) -> Base {
     let counts = match index {
-        0 => Counts { resources: 1, zones: 1, flowgates: 0 },
-        1 => group.most,
+        0 => group.most,
+        1 => Counts { resources: 1, zones: 1, flowgates: 0 },
         _ => Counts {
             resources: random.edgy(1, group.most.resources as i64) as usize,
             zones: random.edgy(1, group.most.zones as i64) as usize,
