@@ -1,7 +1,7 @@
 -- In the bytes of a case every record is there; a valid case's bytes are such, and its records are those at their places.
-use mathlib.Core.Path.{_≡_, refl, sym}
+use mathlib.Core.Path.{_≡_, refl, ap, _∙_}
 use mathlib.Core.List.{List}
-use Prim.Native.Nat.{ℕ, suc, _+_, _*_, _<_, _≤_}
+use Prim.Native.Nat.{ℕ, _+_, _*_, _<_}
 use native.Mathlib.Omega.{arith}
 use native.Mathlib.Nat.{mul-le-mul-right}
 use lib.ListN.{length}
@@ -9,6 +9,8 @@ use lib.Dec.{eqb→eq}
 use Rattle.market.specs.declared.Refusal.the-variants.{CaseSize}
 use Rattle.market.specs.Bytes.{u8At}
 use Rattle.market.specs.CaseFile.{caseOf, caseSize, resourceAt, resourcePlace}
+use Rattle.market.specs.Records.{recordOf}
+use Rattle.market.specs.declared.Resource.{Resource as Record}
 use Rattle.market.specs.CaseCheck.{caseSizeRight}
 use Rattle.market.specs.Outcome.{Valid, caseGrounds}
 use Rattle.market.proofs.Grounds.{unless-clear}
@@ -35,10 +37,14 @@ module _ {b : List ℕ} {r z f : ℕ} (whole : CaseBytes b r z f) where
   pub factor-in : (g i : ℕ) → g < f → i < r → FactorIn b r z g i
   factor-in g i h k = record { flowgate = flowgate-in g h; counted = k }
 
-  -- the resource at its place is the case's
+  -- what stands at a resource's place is the case's resource
   pub resource-is : (i : ℕ) → resourceAt b (resourcePlace z i) ≡ caseOf b .resource i
   unfolding caseOf
   resource-is i = rw (whole .zones)
+
+  -- and a record read there is the record of the case's resource
+  pub record-is : (i : ℕ) {x : Record} → x ≡ recordOf (resourceAt b (resourcePlace z i)) → x ≡ recordOf (caseOf b .resource i)
+  record-is i e = e ∙ ap recordOf (resource-is i)
 
   pub resources-is : r ≡ caseOf b .resources
   unfolding caseOf
@@ -66,3 +72,7 @@ valid-bytes b v =
       most-flowgates = counts .most-flowgates;
       size = eqb→eq (length b) (caseSize (u8At b 5) (u8At b 6) (u8At b 7)) (unless-clear (caseSizeRight b (caseOf b)) CaseSize (v .1 .1 .1 .0));
     }
+
+-- and with counts that are those
+pub counted-bytes : (b : List ℕ) → Valid b → {r z f : ℕ} → r ≡ u8At b 5 → z ≡ u8At b 6 → f ≡ u8At b 7 → CaseBytes b r z f
+counted-bytes b v hr hz hf = rw (hr, hz, hf) (valid-bytes b v)

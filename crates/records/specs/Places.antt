@@ -5,21 +5,12 @@ use mathlib.Core.List.{List}
 use Prim.Native.Nat.{ℕ, _+_, _*_, _<_, _≤_}
 use lib.ListN.{length}
 use Rattle.wire.specs.Within.{Within}
+pub use Rattle.wire.specs.CaseBytes.{CaseBytes}
 use Rattle.market.specs.Bytes.{u8At, u16At, u32At}
 use Rattle.market.specs.CaseFile.{resourcePlace, flowgatePlace, caseSize}
 use Rattle.market.specs.Records.{power, price}
 use Rattle.market.specs.declared.Step.{Step}
 use Rattle.market.specs.declared.ReserveTerms.{ReserveTerms}
-
--- b is as long as a case of r resources, z zones and f flowgates, and counts them in bytes 5, 6 and 7
-pub record CaseBytes (b : List ℕ) (r z f : ℕ) : Type 0 where
-  pub resources : r ≡ u8At b 5
-  pub zones : z ≡ u8At b 6
-  pub flowgates : f ≡ u8At b 7
-  pub most-resources : r ≤ 64
-  pub most-zones : z ≤ 8
-  pub most-flowgates : f ≤ 16
-  pub size : length b ≡ caseSize r z f
 
 -- ---- what is read
 -- counts, demand, reserve terms and curves

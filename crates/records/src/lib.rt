@@ -1,7 +1,7 @@
 // Records out of a case's bytes, by value: resources, zones' requirements, reserve terms, demand curves, demand, flowgates.
 // Each function asks that the bytes it reads are there (specs/Places.antt), and equates its result with the definitions.
 ghost use mathlib.Core.Path.{_≡_};
-ghost use Prim.Native.Nat.{ℕ, _+_, _*_, _<_, _≤_};
+ghost use Prim.Native.Nat.{_+_, _*_, _<_, _≤_};
 ghost use Rattle.wire.specs.Within.{Within};
 ghost use Rattle.market.specs.Bytes.{u32At, i32At};
 ghost use Rattle.market.specs.Case.{Curve, curveNumber, contingencyReserve, regulatingReserve, shortTermReserve};

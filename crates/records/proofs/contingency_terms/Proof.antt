@@ -1,6 +1,7 @@
+-- `records::contingency_terms` meets its contract: the places are those of market's `caseOf`. Assumes nothing.
+use borrow.Author.Needs.{needs}
 use Rattle.market.specs.CaseFile.{caseOf}
 use Rattle.market.specs.Records.{reserveTermsOf}
-use borrow.Author.Needs.{needs}
 use Rattle.records.proofs.contingency_terms.Statement.{statement}
 use Rattle.records.proofs.contingency_terms.Tie as tie
 

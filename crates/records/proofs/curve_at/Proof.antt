@@ -1,13 +1,22 @@
+-- `records::curve_at` meets its contract: the four steps in order, of whichever curve has the number. Assumes nothing.
 use mathlib.Core.List.{[], _∷_}
+use borrow.Author.Needs.{needs}
 use Rattle.market.specs.CaseFile.{caseOf}
 use Rattle.market.specs.Records.{curveStepsOf, curveStepOf}
-use borrow.Author.Needs.{needs}
 use Rattle.records.proofs.curve_at.Statement.{statement}
 use Rattle.records.proofs.curve_at.Tie as tie
 
 returns : tie.Need-returns
 unfolding curveStepsOf curveStepOf caseOf
-returns c = λ k e. rw e (λ i. record { of = (c .before .before .before .curve-step-at .ensures) i ∷ (c .before .before .curve-step-at2 .ensures) i ∷ (c .before .curve-step-at3 .ensures) i ∷ (c .curve-step-at4 .ensures) i ∷ [] })
+returns c = λ k e. rw e (λ i.
+    record {
+      of =
+          (c .before .before .before .curve-step-at .ensures) i
+          ∷ (c .before .before .curve-step-at2 .ensures) i
+          ∷ (c .before .curve-step-at3 .ensures) i
+          ∷ (c .curve-step-at4 .ensures) i
+          ∷ [];
+    })
 
 pub curve-at-spec : {M : Type 1} → statement M
 curve-at-spec =

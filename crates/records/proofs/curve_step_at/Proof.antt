@@ -1,3 +1,4 @@
+-- `records::curve_step_at` meets its contract: the record field by field, each from what its reader ensures. Assumes nothing.
 use borrow.Author.Needs.{needs}
 use Rattle.records.proofs.curve_step_at.Statement.{statement}
 use Rattle.records.proofs.curve_step_at.Tie as tie

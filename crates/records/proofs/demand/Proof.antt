@@ -1,5 +1,6 @@
-use Rattle.market.specs.CaseFile.{caseOf}
+-- `records::demand` meets its contract: the figure at byte 8. Assumes nothing.
 use borrow.Author.Needs.{needs}
+use Rattle.market.specs.CaseFile.{caseOf}
 use Rattle.records.proofs.demand.Statement.{statement}
 use Rattle.records.proofs.demand.Tie as tie
 

@@ -1,6 +1,7 @@
+-- `records::flowgate_limit_at` meets its contract: the counts passed are those of the bytes. Assumes nothing.
 use mathlib.Core.Path.{_∙_}
-use Rattle.market.specs.CaseFile.{caseOf}
 use borrow.Author.Needs.{needs}
+use Rattle.market.specs.CaseFile.{caseOf}
 use Rattle.records.proofs.flowgate_limit_at.Statement.{statement}
 use Rattle.records.proofs.flowgate_limit_at.Tie as tie
 

@@ -1,6 +1,7 @@
-use Rattle.arith.proofs.Machine.{small-bits}
+-- `records::kw_at` meets its contract: what fits 32 bits reads as itself in a signed 64-bit number. Assumes nothing.
 use native.Mathlib.Omega.{arith}
 use borrow.Author.Needs.{needs}
+use Rattle.arith.proofs.Machine.{small-bits}
 use Rattle.records.proofs.kw_at.Statement.{statement}
 use Rattle.records.proofs.kw_at.Tie as tie
 

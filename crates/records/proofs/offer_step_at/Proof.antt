@@ -1,6 +1,7 @@
+-- `records::offer_step_at` meets its contract: the record field by field, each from what its reader ensures. Assumes nothing.
+use borrow.Author.Needs.{needs}
 use Rattle.market.specs.CaseFile.{resourceAt}
 use Rattle.market.specs.Records.{offerStepOf}
-use borrow.Author.Needs.{needs}
 use Rattle.records.proofs.offer_step_at.Statement.{statement}
 use Rattle.records.proofs.offer_step_at.Tie as tie
 

@@ -1,11 +1,20 @@
-use Rattle.market.specs.Records.{recordOf}
+-- `records::resource_from` meets its contract: the record part by part, each from what its reader ensures. Assumes nothing.
 use borrow.Author.Needs.{needs}
+use Rattle.market.specs.Records.{recordOf}
 use Rattle.records.proofs.resource_from.Statement.{statement}
 use Rattle.records.proofs.resource_from.Tie as tie
 
 returns : tie.Need-returns
 unfolding recordOf
-returns c = λ i. record { state = (c .before .before .before .before .before .state-at .ensures) i; limits = (c .before .before .before .before .limits-at .ensures) i; ramps = (c .before .before .before .ramps-at .ensures) i; starts = (c .before .before .starts-at .ensures) i; offers = (c .before .reserve-offers-at .ensures) i; steps = (c .offer-steps-at .ensures) i }
+returns c = λ i.
+    record {
+      state = (c .before .before .before .before .before .state-at .ensures) i;
+      limits = (c .before .before .before .before .limits-at .ensures) i;
+      ramps = (c .before .before .before .ramps-at .ensures) i;
+      starts = (c .before .before .starts-at .ensures) i;
+      offers = (c .before .reserve-offers-at .ensures) i;
+      steps = (c .offer-steps-at .ensures) i;
+    }
 
 pub resource-from-spec : {M : Type 1} → statement M
 resource-from-spec =

@@ -1,14 +1,19 @@
+-- `records::shift_factor_at` meets its contract: the counts passed are those of the bytes. Assumes nothing.
 use mir.Facts.{toZ-ofZ}
 use mir.Syntax.{w64}
-use borrow.Author.Needs.{sfits-of}
+use borrow.Author.Needs.{sfits-of, needs}
 use Rattle.market.specs.CaseFile.{caseOf}
-use borrow.Author.Needs.{needs}
 use Rattle.records.proofs.shift_factor_at.Statement.{statement}
 use Rattle.records.proofs.shift_factor_at.Tie as tie
 
 returns : tie.Need-returns
 unfolding caseOf
-returns c = rw (toZ-ofZ (sfits-of {w = w64} (c .i16-at .ok)), c .i16-at .ensures, c .before .before .pre .flowgate .resources, c .before .before .pre .flowgate .zones)
+returns c = rw (
+  toZ-ofZ (sfits-of {w = w64} (c .i16-at .ok)),
+  c .i16-at .ensures,
+  c .before .before .pre .flowgate .resources,
+  c .before .before .pre .flowgate .zones,
+)
 
 pub shift-factor-at-spec : {M : Type 1} → statement M
 shift-factor-at-spec =

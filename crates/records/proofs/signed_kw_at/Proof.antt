@@ -1,7 +1,7 @@
+-- `records::signed_kw_at` meets its contract: the number is kept as it was read. Assumes nothing.
 use mir.Facts.{toZ-ofZ}
 use mir.Syntax.{w64}
-use borrow.Author.Needs.{sfits-of}
-use borrow.Author.Needs.{needs}
+use borrow.Author.Needs.{sfits-of, needs}
 use Rattle.records.proofs.signed_kw_at.Statement.{statement}
 use Rattle.records.proofs.signed_kw_at.Tie as tie
 

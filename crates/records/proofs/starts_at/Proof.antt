@@ -1,12 +1,19 @@
+-- `records::starts_at` meets its contract: the record field by field, each from what its reader ensures. Assumes nothing.
+use borrow.Author.Needs.{needs}
 use Rattle.market.specs.CaseFile.{resourceAt}
 use Rattle.market.specs.Records.{startsOf}
-use borrow.Author.Needs.{needs}
 use Rattle.records.proofs.starts_at.Statement.{statement}
 use Rattle.records.proofs.starts_at.Tie as tie
 
 returns : tie.Need-returns
 unfolding startsOf resourceAt
-returns c = λ i. record { initial = (c .before .before .before .kw-at .ensures) i; «off_line_response» = (c .before .before .kw-at2 .ensures) i; «off_line_short_term» = (c .before .kw-at3 .ensures) i; «self_schedule» = (c .kw-at4 .ensures) i }
+returns c = λ i.
+    record {
+      initial = (c .before .before .before .kw-at .ensures) i;
+      «off_line_response» = (c .before .before .kw-at2 .ensures) i;
+      «off_line_short_term» = (c .before .kw-at3 .ensures) i;
+      «self_schedule» = (c .kw-at4 .ensures) i;
+    }
 
 pub starts-at-spec : {M : Type 1} → statement M
 starts-at-spec =

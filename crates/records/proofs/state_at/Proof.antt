@@ -1,12 +1,22 @@
+-- `records::state_at` meets its contract: the record field by field, each from what its reader ensures. Assumes nothing.
+use borrow.Author.Needs.{needs}
 use Rattle.market.specs.CaseFile.{resourceAt}
 use Rattle.market.specs.Records.{stateOf}
-use borrow.Author.Needs.{needs}
 use Rattle.records.proofs.state_at.Statement.{statement}
 use Rattle.records.proofs.state_at.Tie as tie
 
 returns : tie.Need-returns
 unfolding stateOf resourceAt
-returns c = λ i. record { kind = (c .before .before .before .before .before .before .u8-at .ensures) i; zone = (c .before .before .before .before .before .u8-at2 .ensures) i; breaker = (c .before .before .before .before .u8-at3 .ensures) i; status = record { 0 = (c .before .before .before .u8-at4 .ensures) i }; trip = (c .before .before .u8-at5 .ensures) i; flags = record { 0 = (c .before .u8-at6 .ensures) i }; output = (c .signed-kw-at .ensures) i }
+returns c = λ i.
+    record {
+      kind = (c .before .before .before .before .before .before .u8-at .ensures) i;
+      zone = (c .before .before .before .before .before .u8-at2 .ensures) i;
+      breaker = (c .before .before .before .before .u8-at3 .ensures) i;
+      status = record { 0 = (c .before .before .before .u8-at4 .ensures) i };
+      trip = (c .before .before .u8-at5 .ensures) i;
+      flags = record { 0 = (c .before .u8-at6 .ensures) i };
+      output = (c .signed-kw-at .ensures) i;
+    }
 
 pub state-at-spec : {M : Type 1} → statement M
 state-at-spec =

@@ -1,9 +1,16 @@
+-- `records::terms_at` meets its contract: the record field by field, each from what its reader ensures. Assumes nothing.
 use borrow.Author.Needs.{needs}
 use Rattle.records.proofs.terms_at.Statement.{statement}
 use Rattle.records.proofs.terms_at.Tie as tie
 
 returns : tie.Need-returns
-returns c = λ i. record { multiplier = (c .before .before .before .u16-at .ensures .0) i; minutes = (c .before .before .u16-at2 .ensures .0) i; share = (c .before .u16-at3 .ensures .0) i; requirement = (c .kw-at .ensures) i }
+returns c = λ i.
+    record {
+      multiplier = (c .before .before .before .u16-at .ensures .0) i;
+      minutes = (c .before .before .u16-at2 .ensures .0) i;
+      share = (c .before .u16-at3 .ensures .0) i;
+      requirement = (c .kw-at .ensures) i;
+    }
 
 pub terms-at-spec : {M : Type 1} → statement M
 terms-at-spec =

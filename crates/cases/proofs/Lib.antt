@@ -1,0 +1,3 @@
+mod Steps
+mod Places
+pub mod Passing

@@ -1,0 +1,93 @@
+-- What a record says of the figures that it stands for: its amounts field by field, its steps, and tests of its flags and status.
+use mathlib.Core.Path.{_≡_, refl, sym, ap, _∙_}
+use mathlib.Core.Bool.{Bool, true, false, not, cond}
+use Prim.Native.Nat.{ℕ}
+use borrow.Author.Tests.{not-true, not-false}
+use Rattle.market.specs.Case.{Resource as Figures}
+use Rattle.market.specs.Records.{power, recordOf, stateOf, outputLimitsOf, rampsOf, startsOf, offerStepsOf}
+use Rattle.market.specs.declared.Kw.{Kw}
+use Rattle.market.specs.declared.Resource.{Resource}
+
+module _ {r : Resource} (s : Figures) (e : r ≡ recordOf s) where
+  pub economic-max-is : r .limits .«economic_max» ≡ power (s .economicMax)
+  unfolding recordOf outputLimitsOf
+  economic-max-is = ap (λ (x : Resource). x .limits .«economic_max») e
+
+  pub regulating-max-is : r .limits .«regulating_max» ≡ power (s .regulatingMax)
+  unfolding recordOf outputLimitsOf
+  regulating-max-is = ap (λ (x : Resource). x .limits .«regulating_max») e
+
+  pub emergency-max-is : r .limits .«emergency_max» ≡ power (s .emergencyMax)
+  unfolding recordOf outputLimitsOf
+  emergency-max-is = ap (λ (x : Resource). x .limits .«emergency_max») e
+
+  pub economic-min-is : r .limits .«economic_min» ≡ power (s .economicMin)
+  unfolding recordOf outputLimitsOf
+  economic-min-is = ap (λ (x : Resource). x .limits .«economic_min») e
+
+  pub regulating-min-is : r .limits .«regulating_min» ≡ power (s .regulatingMin)
+  unfolding recordOf outputLimitsOf
+  regulating-min-is = ap (λ (x : Resource). x .limits .«regulating_min») e
+
+  pub emergency-min-is : r .limits .«emergency_min» ≡ power (s .emergencyMin)
+  unfolding recordOf outputLimitsOf
+  emergency-min-is = ap (λ (x : Resource). x .limits .«emergency_min») e
+
+  pub ramp-up-is : r .ramps .up ≡ power (s .rampUp)
+  unfolding recordOf rampsOf
+  ramp-up-is = ap (λ (x : Resource). x .ramps .up) e
+
+  pub ramp-down-is : r .ramps .down ≡ power (s .rampDown)
+  unfolding recordOf rampsOf
+  ramp-down-is = ap (λ (x : Resource). x .ramps .down) e
+
+  pub ramp-rate-is : r .ramps .rate ≡ power (s .rampRate)
+  unfolding recordOf rampsOf
+  ramp-rate-is = ap (λ (x : Resource). x .ramps .rate) e
+
+  pub initial-is : r .starts .initial ≡ power (s .initial)
+  unfolding recordOf startsOf
+  initial-is = ap (λ (x : Resource). x .starts .initial) e
+
+  pub off-line-response-is : r .starts .«off_line_response» ≡ power (s .offLineResponse)
+  unfolding recordOf startsOf
+  off-line-response-is = ap (λ (x : Resource). x .starts .«off_line_response») e
+
+  pub off-line-short-term-is : r .starts .«off_line_short_term» ≡ power (s .offLineShortTerm)
+  unfolding recordOf startsOf
+  off-line-short-term-is = ap (λ (x : Resource). x .starts .«off_line_short_term») e
+
+  pub self-schedule-is : r .starts .«self_schedule» ≡ power (s .selfSchedule)
+  unfolding recordOf startsOf
+  self-schedule-is = ap (λ (x : Resource). x .starts .«self_schedule») e
+
+  pub steps-are : r .steps ≡ offerStepsOf s
+  unfolding recordOf
+  steps-are = ap (λ (x : Resource). x .steps) e
+
+  -- a test t of the record's flags is one of the figures'
+  pub flags-are : (f : ℕ → Bool) {t : Bool} → t ≡ f (r .state .flags .0) → t ≡ f (s .flags)
+  unfolding recordOf stateOf
+  flags-are f told = told ∙ ap (λ (x : Resource). f (x .state .flags .0)) e
+
+  -- of flags and status
+  pub bits-are : (f : ℕ → ℕ → Bool) {t : Bool} → t ≡ f (r .state .flags .0) (r .state .status .0) → t ≡ f (s .flags) (s .status)
+  unfolding recordOf stateOf
+  bits-are f told = told ∙ ap (λ (x : Resource). f (x .state .flags .0) (x .state .status .0)) e
+
+-- ---- tests: u is what a call answered, and `!answer` led on or did not
+pub told-false : {t u : Bool} → t ≡ u → not t ≡ true → u ≡ false
+told-false {t} h k = sym h ∙ not-true t k
+
+pub told-true : {t u : Bool} → t ≡ u → not t ≡ false → u ≡ true
+told-true {t} h k = sym h ∙ not-false t k
+
+-- the first limit in force, of amounts by tests
+pub in-force-is : {t t′ u u′ : Bool} {a b c : ℕ} {x y z : Kw} → t ≡ t′ → u ≡ u′ → x ≡ power a → y ≡ power b → z ≡ power c
+    → cond t x (cond u y z) ≡ power (cond t′ a (cond u′ b c))
+in-force-is {t} {t′} {u} {u′} {a} {b} {c} ht hu hx hy hz = rw (ht, hu, hx, hy, hz) (go t′ u′)
+  where
+    go : (t u : Bool) → cond t (power a) (cond u (power b) (power c)) ≡ power (cond t a (cond u b c))
+    go true u = refl
+    go false true = refl
+    go false false = refl

@@ -1,0 +1,5 @@
+pub mod Amounts
+pub mod OnLine
+pub mod Fields
+pub mod Widths
+pub mod Products

@@ -1,0 +1,17 @@
+-- `limits::energy_bound` meets its contract: off-line, and then the steps together. Assumes nothing.
+use borrow.Author.Needs.{needs}
+use Rattle.market.specs.UpperBounds.{serviceBound}
+use Rattle.limits.proofs.Fields.{steps-are, told-false, told-true}
+use Rattle.limits.proofs.energy_bound.Statement.{statement}
+use Rattle.limits.proofs.energy_bound.Tie as tie
+
+returns : tie.Need-returns
+unfolding serviceBound
+returns c = λ k s e. rw (told-false (c .before .on-line .ensures s e) (c .if1 .taken))
+
+returns-2 : tie.Need-returns-2
+unfolding serviceBound
+returns-2 c = λ k s e. rw (told-true (c .before .before .on-line .ensures s e) (c .before .if1 .left)) (c .offered .ensures s (steps-are s e))
+
+pub energy-bound-spec : {M : Type 1} → statement M
+energy-bound-spec = tie.close (tie.spec (λ c κs. search needs) returns (λ c κs. search needs) returns-2)

@@ -1,0 +1,2 @@
+pub mod OnLine
+pub mod OffLine

@@ -1,0 +1,423 @@
+// Which resources are on-line, their limits, and the upper bounds of what they provide (01, 'Before the rows'), on records
+// by value. Each function equates its result with the definition for all figures that the record stands for; where
+// numbers are added or multiplied it asks that the record is in range (records, specs/Ranged.antt).
+ghost use mathlib.Core.Path.{_≡_};
+ghost use Prim.Native.Nat.{ℕ, _+_, _*_, _-_, _/_, _<_, _≤_, min, max};
+ghost use lib.IntN.{natAbs, pos};
+ghost use lib.Signed.{ltZ};
+ghost use mathlib.Core.Bool.{cond, _||_};
+ghost use Rattle.market.specs.Bits.{regulatingFlag, spinningFlag, onLineSupplemental};
+ghost use Rattle.market.specs.Case.{Case, Resource as Figures, Curve, Reserve, regulatingReserve, contingencyReserve, shortTermReserve, widthOf, energySteps};
+ghost use Rattle.market.specs.Availability.{onLine};
+ghost use Rattle.market.specs.Limits.{MAX, MIN, HI, LO, rampFloor};
+ghost use Rattle.market.specs.UpperBounds.{RAMP, SHARE, onLineBound, serviceBound, upperBound, energy, regulation, contingency, onLineShortTerm, offLineShortTerm, Cleared};
+ghost use Rattle.market.specs.Records.{power, recordOf, reserveTermsOf, offerStepsOf, curveStepsOf};
+ghost use Rattle.records.specs.Ranged.{UpTo, Ranged, RangedSteps, RangedTerms, RangedCurve};
+ghost use Rattle.limits.specs.OffLine.{offLineContingency};
+ghost use Rattle.limits.specs.OnLine.{atLeast500, conventionalOnLine, intermittentOnLine, externalOnLine};
+use market::CurveSteps;
+use market::Kw;
+use market::OfferSteps;
+use market::ReserveTerms;
+use market::Resource;
+use market::State;
+
+// ---- amounts: only these functions look into a kilowatt figure
+
+fn plus(a: Kw, b: Kw) -> Kw
+    requires { ⌜ (natAbs (a .0) ≤ 1000000000) × (natAbs (b .0) ≤ 1000000000) ⌝ }
+    ensures { λ r. ⌜ ((m n : ℕ) → a ≡ power m → b ≡ power n → r ≡ power (m + n)) × (natAbs (r .0) ≤ natAbs (a .0) + natAbs (b .0)) ⌝ }
+{
+    Kw(a.0 + b.0)
+}
+
+// What five minutes make of an amount a minute.
+fn in_five_minutes(a: Kw) -> Kw
+    requires { ⌜ natAbs (a .0) ≤ 1000000 ⌝ }
+    ensures { λ r. ⌜ ((n : ℕ) → a ≡ power n → r ≡ power (5 * n)) × (natAbs (r .0) ≤ 5000000) ⌝ }
+{
+    Kw(5 * a.0)
+}
+
+// a - b, at least 0.
+fn less(a: Kw, b: Kw) -> Kw
+    requires { ⌜ (natAbs (a .0) ≤ 1000000000) × (natAbs (b .0) ≤ 1000000000) ⌝ }
+    ensures { λ r. ⌜ ((m n : ℕ) → a ≡ power m → b ≡ power n → r ≡ power (m - n)) ⌝ }
+{
+    let x = a.0;
+    let y = b.0;
+    if x < y {
+        return Kw(0);
+    }
+    Kw(x - y)
+}
+
+fn lesser(a: Kw, b: Kw) -> Kw
+    ensures { λ r. ⌜ ((m n : ℕ) → a ≡ power m → b ≡ power n → r ≡ power (min m n)) ⌝ }
+{
+    if b.0 < a.0 {
+        return b;
+    }
+    a
+}
+
+fn larger(a: Kw, b: Kw) -> Kw
+    ensures { λ r. ⌜ ((m n : ℕ) → a ≡ power m → b ≡ power n → r ≡ power (max m n)) ⌝ }
+{
+    if a.0 < b.0 {
+        return b;
+    }
+    a
+}
+
+// n × times / over, rounded down: first multiplied, then divided.
+fn quotient(n: u64, times: u64, over: u64) -> u64
+    requires { ⌜ (n * times ≤ 480000000000) × (1 ≤ over) ⌝ }
+    ensures { λ q. ⌜ q ≡ n * times / over ⌝ }
+{
+    n * times / over
+}
+
+fn portion(a: Kw, times: u64, over: u64) -> Kw
+    requires { ⌜ UpTo (a .0) 8000000 × ((times ≤ 60000) × (1 ≤ over)) ⌝ }
+    ensures { λ r. ⌜ ((n : ℕ) → a ≡ power n → r ≡ power (n * times / over)) ⌝ }
+{
+    let n = a.0 as u64;
+    Kw(quotient(n, times, over) as i64)
+}
+
+fn at_least_500(output: Kw) -> bool
+    ensures { λ t. ⌜ t ≡ atLeast500 (output .0) ⌝ }
+{
+    let v = output.0;
+    if v >= 500 {
+        return true;
+    }
+    v <= -500
+}
+
+fn above_zero(output: Kw) -> bool
+    ensures { λ t. ⌜ t ≡ ltZ (pos 0) (output .0) ⌝ }
+{
+    let v = output.0;
+    v > 0
+}
+
+// ---- on-line (002, 3.1)
+
+fn conventional(t: State) -> bool
+    ensures { λ v. ⌜ v ≡ conventionalOnLine t ⌝ }
+{
+    if t.kind != 1 {
+        return false;
+    }
+    if !at_least_500(t.output) {
+        return false;
+    }
+    if t.breaker != 1 {
+        return false;
+    }
+    t.trip > 15
+}
+
+fn intermittent(t: State) -> bool
+    ensures { λ v. ⌜ v ≡ intermittentOnLine t ⌝ }
+{
+    if t.kind != 2 {
+        return false;
+    }
+    let status = t.status;
+    if !status.committed() {
+        return false;
+    }
+    if t.breaker != 1 {
+        return false;
+    }
+    above_zero(t.output)
+}
+
+fn external(t: State) -> bool
+    ensures { λ v. ⌜ v ≡ externalOnLine t ⌝ }
+{
+    if t.kind != 3 {
+        return false;
+    }
+    let status = t.status;
+    if !status.available() {
+        return false;
+    }
+    if t.breaker != 1 {
+        return false;
+    }
+    status.active_schedule()
+}
+
+pub fn on_line(r: Resource) -> bool
+    ensures { λ t. ⌜ ((s : Figures) → r ≡ recordOf s → t ≡ onLine s) ⌝ }
+{
+    let state = r.state;
+    if conventional(state) {
+        return true;
+    }
+    if intermittent(state) {
+        return true;
+    }
+    external(state)
+}
+
+// ---- limits
+
+// Flag 1.
+fn regulates(r: Resource) -> bool
+    ensures { λ t. ⌜ t ≡ regulatingFlag (r .state .flags .0) ⌝ }
+{
+    let flags = r.state.flags;
+    flags.regulating()
+}
+
+// The emergency limit if it is released, else the regulating one if the resource regulates, else the economic.
+fn in_force(released: bool, emergency: Kw, regulates: bool, regulating: Kw, economic: Kw) -> Kw
+    ensures { λ m. ⌜ m ≡ cond released emergency (cond regulates regulating economic) ⌝ }
+{
+    if released {
+        return emergency;
+    }
+    if regulates {
+        return regulating;
+    }
+    economic
+}
+
+pub fn max_limit(r: Resource) -> Kw
+    ensures { λ m. ⌜ ((s : Figures) → r ≡ recordOf s → m ≡ power (MAX s)) ⌝ }
+{
+    let limits = r.limits;
+    if !on_line(r) {
+        return limits.economic_max;
+    }
+    let flags = r.state.flags;
+    let released = flags.emergency_maximum();
+    let regulating = regulates(r);
+    in_force(
+        released,
+        limits.emergency_max,
+        regulating,
+        limits.regulating_max,
+        limits.economic_max,
+    )
+}
+
+pub fn min_limit(r: Resource) -> Kw
+    ensures { λ m. ⌜ ((s : Figures) → r ≡ recordOf s → m ≡ power (MIN s)) ⌝ }
+{
+    if !on_line(r) {
+        return Kw(0);
+    }
+    let limits = r.limits;
+    let flags = r.state.flags;
+    let released = flags.emergency_minimum();
+    let regulating = regulates(r);
+    in_force(
+        released,
+        limits.emergency_min,
+        regulating,
+        limits.regulating_min,
+        limits.economic_min,
+    )
+}
+
+pub fn high_limit(r: Resource) -> Kw
+    requires { ⌜ Ranged r ⌝ }
+    ensures { λ m. ⌜ ((s : Figures) → r ≡ recordOf s → m ≡ power (HI s)) ⌝ }
+{
+    if !on_line(r) {
+        return r.limits.economic_max;
+    }
+    let climb = in_five_minutes(r.ramps.up);
+    plus(r.starts.initial, climb)
+}
+
+// What five minutes of ramp leave of the initial energy.
+fn ramp_floor(r: Resource) -> Kw
+    requires { ⌜ Ranged r ⌝ }
+    ensures { λ m. ⌜ ((s : Figures) → r ≡ recordOf s → m ≡ power (rampFloor s)) ⌝ }
+{
+    let fall = in_five_minutes(r.ramps.down);
+    less(r.starts.initial, fall)
+}
+
+pub fn low_limit(r: Resource) -> Kw
+    requires { ⌜ Ranged r ⌝ }
+    ensures { λ m. ⌜ ((s : Figures) → r ≡ recordOf s → m ≡ power (LO s)) ⌝ }
+{
+    if !on_line(r) {
+        return Kw(0);
+    }
+    let floor = ramp_floor(r);
+    let flags = r.state.flags;
+    if !flags.self_scheduled() {
+        return floor;
+    }
+    larger(floor, r.starts.self_schedule)
+}
+
+// ---- what bounds a reserve
+
+// RAMP
+pub fn ramp_bound(terms: ReserveTerms, r: Resource) -> Kw
+    requires { ⌜ RangedTerms terms × Ranged r ⌝ }
+    ensures { λ m. ⌜ ((c : Case) (p : Reserve) (s : Figures) → terms ≡ reserveTermsOf c p → r ≡ recordOf s → m ≡ power (RAMP c p s)) ⌝ }
+{
+    let minutes = terms.minutes as u64;
+    let multiplier = terms.multiplier as u64;
+    portion(r.ramps.rate, minutes * 1000, multiplier)
+}
+
+// SHARE
+pub fn share_bound(terms: ReserveTerms) -> Kw
+    requires { ⌜ RangedTerms terms ⌝ }
+    ensures { λ m. ⌜ ((c : Case) (p : Reserve) → terms ≡ reserveTermsOf c p → m ≡ power (SHARE c p)) ⌝ }
+{
+    let share = terms.share as u64;
+    portion(terms.requirement, share, 1000)
+}
+
+// The least of RAMP, SHARE and MAX.
+fn on_line_bound(terms: ReserveTerms, r: Resource) -> Kw
+    requires { ⌜ RangedTerms terms × Ranged r ⌝ }
+    ensures { λ m. ⌜ ((c : Case) (p : Reserve) (s : Figures) → terms ≡ reserveTermsOf c p → r ≡ recordOf s → m ≡ power (onLineBound c p s)) ⌝ }
+{
+    let ramp = ramp_bound(terms, r);
+    let share = share_bound(terms);
+    let most = max_limit(r);
+    lesser(ramp, lesser(share, most))
+}
+
+// ---- upper bounds of a resource's five quantities
+
+fn offered(steps: OfferSteps) -> Kw
+    requires { ⌜ RangedSteps steps ⌝ }
+    ensures { λ m. ⌜ ((s : Figures) → steps ≡ offerStepsOf s → m ≡ power (widthOf (s .stepWidth) energySteps)) ⌝ }
+{
+    let mut sum = Kw(0);
+    let mut j: usize = 0;
+    while j < 10 {
+        let step = steps.of[j];
+        sum = plus(sum, step.width);
+        j += 1;
+    }
+    sum
+}
+
+// e
+pub fn energy_bound(r: Resource) -> Kw
+    requires { ⌜ Ranged r ⌝ }
+    ensures { λ m. ⌜ ((c : Case) (s : Figures) → r ≡ recordOf s → m ≡ power (serviceBound c s energy)) ⌝ }
+{
+    if !on_line(r) {
+        return Kw(0);
+    }
+    offered(r.steps)
+}
+
+// g
+pub fn regulation_bound(terms: ReserveTerms, r: Resource) -> Kw
+    requires { ⌜ RangedTerms terms × Ranged r ⌝ }
+    ensures { λ m. ⌜ ((c : Case) (s : Figures) → terms ≡ reserveTermsOf c regulatingReserve → r ≡ recordOf s → m ≡ power (serviceBound c s regulation)) ⌝ }
+{
+    if !on_line(r) {
+        return Kw(0);
+    }
+    if !regulates(r) {
+        return Kw(0);
+    }
+    on_line_bound(terms, r)
+}
+
+// Spinning, or on-line supplemental.
+fn carries_contingency(t: State) -> bool
+    ensures { λ v. ⌜ v ≡ (spinningFlag (t .flags .0) || onLineSupplemental (t .status .0)) ⌝ }
+{
+    let flags = t.flags;
+    if flags.spinning() {
+        return true;
+    }
+    let status = t.status;
+    status.on_line_supplemental()
+}
+
+fn off_line_contingency_bound(terms: ReserveTerms, r: Resource) -> Kw
+    requires { ⌜ RangedTerms terms × Ranged r ⌝ }
+    ensures { λ m. ⌜ ((c : Case) (s : Figures) → terms ≡ reserveTermsOf c contingencyReserve → r ≡ recordOf s → m ≡ power (offLineContingency c s)) ⌝ }
+{
+    let flags = r.state.flags;
+    if !flags.off_line_supplemental() {
+        return Kw(0);
+    }
+    let share = share_bound(terms);
+    lesser(
+        r.limits.economic_max,
+        lesser(r.starts.off_line_response, share),
+    )
+}
+
+// c
+pub fn contingency_bound(terms: ReserveTerms, r: Resource) -> Kw
+    requires { ⌜ RangedTerms terms × Ranged r ⌝ }
+    ensures { λ m. ⌜ ((c : Case) (s : Figures) → terms ≡ reserveTermsOf c contingencyReserve → r ≡ recordOf s → m ≡ power (serviceBound c s contingency)) ⌝ }
+{
+    if !on_line(r) {
+        return off_line_contingency_bound(terms, r);
+    }
+    let state = r.state;
+    if !carries_contingency(state) {
+        return Kw(0);
+    }
+    on_line_bound(terms, r)
+}
+
+// s
+pub fn on_line_short_term_bound(terms: ReserveTerms, r: Resource) -> Kw
+    requires { ⌜ RangedTerms terms × Ranged r ⌝ }
+    ensures { λ m. ⌜ ((c : Case) (s : Figures) → terms ≡ reserveTermsOf c shortTermReserve → r ≡ recordOf s → m ≡ power (serviceBound c s onLineShortTerm)) ⌝ }
+{
+    if !on_line(r) {
+        return Kw(0);
+    }
+    let flags = r.state.flags;
+    if !flags.on_line_short_term() {
+        return Kw(0);
+    }
+    on_line_bound(terms, r)
+}
+
+// o
+pub fn off_line_short_term_bound(r: Resource) -> Kw
+    ensures { λ m. ⌜ ((c : Case) (s : Figures) → r ≡ recordOf s → m ≡ power (serviceBound c s offLineShortTerm)) ⌝ }
+{
+    if on_line(r) {
+        return Kw(0);
+    }
+    let flags = r.state.flags;
+    if !flags.off_line_short_term() {
+        return Kw(0);
+    }
+    lesser(r.limits.economic_max, r.starts.off_line_short_term)
+}
+
+// ---- of a cleared quantity
+
+// The widths of its curve together.
+pub fn curve_bound(curve: CurveSteps) -> Kw
+    requires { ⌜ RangedCurve curve ⌝ }
+    ensures { λ m. ⌜ ((c : Case) (k : Curve) → curve ≡ curveStepsOf c k → m ≡ power (upperBound c (Cleared k))) ⌝ }
+{
+    let mut sum = Kw(0);
+    let mut j: usize = 0;
+    while j < 4 {
+        let step = curve.of[j];
+        sum = plus(sum, step.width);
+        j += 1;
+    }
+    sum
+}

@@ -1,0 +1,3 @@
+pub mod Laws
+mod Places
+pub mod Halves
