@@ -1,8 +1,11 @@
-// Big-endian numbers at a place of a slice of bytes. Each reader asks that the bytes it reads lie within the slice.
+// Big-endian numbers at a place of a slice of bytes, out of it and into it. Each function asks that the bytes that it
+// reads or writes lie within the slice.
 ghost use mathlib.Core.Path.{_≡_};
 ghost use Prim.Native.Nat.{ℕ, _+_, _<_, _≤_};
 ghost use Rattle.market.specs.Bytes.{u8At, u16At, u32At, signed, i16At, i32At};
-ghost use Rattle.wire.specs.Within.{Within};
+ghost use mathlib.Core.List.{[], _∷_};
+ghost use Rattle.market.specs.Numbers.{u16Bytes, u32Bytes};
+ghost use Rattle.wire.specs.Within.{Within, written};
 
 fn wide(x: u8) -> u32
     ensures { λ r. ⌜ (r ≡ x) × (r < 256) ⌝ }
@@ -63,4 +66,31 @@ pub fn i32_at(b: &[u8], at: usize) -> i64
 {
     let n = u32_at(b, at);
     twos_complement(n, 2147483648)
+}
+
+// ---- into a slice: the other bytes stay as they are
+
+pub fn put_u8(out: &mut [u8], at: usize, n: u32)
+    requires { ⌜ Within (now out) at 1 × (n < 256) ⌝ }
+    ensures { λ _. ⌜ now (out .exit) ≡ written at (n ∷ []) (now (out .entry)) ⌝ }
+{
+    out[at] = n as u8;
+}
+
+pub fn put_u16(out: &mut [u8], at: usize, n: u32)
+    requires { ⌜ Within (now out) at 2 ⌝ }
+    ensures { λ _. ⌜ now (out .exit) ≡ written at (u16Bytes n) (now (out .entry)) ⌝ }
+{
+    out[at] = (n / 256 % 256) as u8;
+    out[at + 1] = (n % 256) as u8;
+}
+
+pub fn put_u32(out: &mut [u8], at: usize, n: u32)
+    requires { ⌜ Within (now out) at 4 ⌝ }
+    ensures { λ _. ⌜ now (out .exit) ≡ written at (u32Bytes n) (now (out .entry)) ⌝ }
+{
+    out[at] = (n / 16777216 % 256) as u8;
+    out[at + 1] = (n / 65536 % 256) as u8;
+    out[at + 2] = (n / 256 % 256) as u8;
+    out[at + 3] = (n % 256) as u8;
 }
