@@ -2,10 +2,10 @@
 // by value. Each function equates its result with the definition for all figures that the record stands for; where
 // numbers are added or multiplied it asks that the record is in range (records, specs/Ranged.antt).
 ghost use mathlib.Core.Path.{_≡_};
+ghost use mathlib.Core.Bool.{cond, _||_};
 ghost use Prim.Native.Nat.{ℕ, _+_, _*_, _-_, _/_, _<_, _≤_, min, max};
 ghost use lib.IntN.{natAbs, pos};
 ghost use lib.Signed.{ltZ};
-ghost use mathlib.Core.Bool.{cond, _||_};
 ghost use Rattle.market.specs.Bits.{regulatingFlag, spinningFlag, onLineSupplemental};
 ghost use Rattle.market.specs.Case.{Case, Resource as Figures, Curve, Reserve, regulatingReserve, contingencyReserve, shortTermReserve, widthOf, energySteps};
 ghost use Rattle.market.specs.Availability.{onLine};
@@ -78,6 +78,7 @@ fn quotient(n: u64, times: u64, over: u64) -> u64
     n * times / over
 }
 
+// a × times / over, as an amount.
 fn portion(a: Kw, times: u64, over: u64) -> Kw
     requires { ⌜ UpTo (a .0) 8000000 × ((times ≤ 60000) × (1 ≤ over)) ⌝ }
     ensures { λ r. ⌜ ((n : ℕ) → a ≡ power n → r ≡ power (n * times / over)) ⌝ }
@@ -86,6 +87,7 @@ fn portion(a: Kw, times: u64, over: u64) -> Kw
     Kw(quotient(n, times, over) as i64)
 }
 
+// At least 500 kW, produced or taken.
 fn at_least_500(output: Kw) -> bool
     ensures { λ t. ⌜ t ≡ atLeast500 (output .0) ⌝ }
 {
@@ -105,6 +107,7 @@ fn above_zero(output: Kw) -> bool
 
 // ---- on-line (002, 3.1)
 
+// Kind 1.
 fn conventional(t: State) -> bool
     ensures { λ v. ⌜ v ≡ conventionalOnLine t ⌝ }
 {
@@ -120,6 +123,7 @@ fn conventional(t: State) -> bool
     t.trip > 15
 }
 
+// Kind 2.
 fn intermittent(t: State) -> bool
     ensures { λ v. ⌜ v ≡ intermittentOnLine t ⌝ }
 {
@@ -136,6 +140,7 @@ fn intermittent(t: State) -> bool
     above_zero(t.output)
 }
 
+// Kind 3.
 fn external(t: State) -> bool
     ensures { λ v. ⌜ v ≡ externalOnLine t ⌝ }
 {
@@ -295,6 +300,7 @@ fn on_line_bound(terms: ReserveTerms, r: Resource) -> Kw
 
 // ---- upper bounds of a resource's five quantities
 
+// The widths of the energy steps together.
 fn offered(steps: OfferSteps) -> Kw
     requires { ⌜ RangedSteps steps ⌝ }
     ensures { λ m. ⌜ ((s : Figures) → steps ≡ offerStepsOf s → m ≡ power (widthOf (s .stepWidth) energySteps)) ⌝ }

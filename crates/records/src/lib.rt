@@ -66,7 +66,7 @@ fn state_at(b: &[u8], at: usize) -> State
         breaker: wire::u8_at(b, at + 2),
         status: Status(wire::u8_at(b, at + 3)),
         trip: wire::u8_at(b, at + 4),
-        flags: Flags(wire::u8_at(b, at + 5)),
+        flags: Flags::of(wire::u8_at(b, at + 5)),
         output: signed_kw_at(b, at + 6),
     }
 }
@@ -171,7 +171,7 @@ pub fn resource_at(b: &[u8], zones: usize, i: usize) -> Resource
     resource_from(b, 170 + zones * 16 + i * 154)
 }
 
-// ---- zones
+// ---- zones, counted from 0
 
 // Of a zone, for the curve of number k.
 fn requirement_at(b: &[u8], z: usize, k: usize) -> Kw

@@ -1,4 +1,5 @@
 -- `records::state_at` meets its contract: the record field by field, each from what its reader ensures. Assumes nothing.
+use mathlib.Core.Path.{_∙_}
 use borrow.Author.Needs.{needs}
 use Rattle.market.specs.CaseFile.{resourceAt}
 use Rattle.market.specs.Records.{stateOf}
@@ -9,12 +10,12 @@ returns : tie.Need-returns
 unfolding stateOf resourceAt
 returns c = λ i.
     record {
-      kind = (c .before .before .before .before .before .before .u8-at .ensures) i;
-      zone = (c .before .before .before .before .before .u8-at2 .ensures) i;
-      breaker = (c .before .before .before .before .u8-at3 .ensures) i;
-      status = record { 0 = (c .before .before .before .u8-at4 .ensures) i };
-      trip = (c .before .before .u8-at5 .ensures) i;
-      flags = record { 0 = (c .before .u8-at6 .ensures) i };
+      kind = (c .before .before .before .before .before .before .before .u8-at .ensures) i;
+      zone = (c .before .before .before .before .before .before .u8-at2 .ensures) i;
+      breaker = (c .before .before .before .before .before .u8-at3 .ensures) i;
+      status = record { 0 = (c .before .before .before .before .u8-at4 .ensures) i };
+      trip = (c .before .before .before .u8-at5 .ensures) i;
+      flags = record { 0 = (c .before .of .ensures ∙ c .before .before .u8-at6 .ensures) i };
       output = (c .signed-kw-at .ensures) i;
     }
 
@@ -32,6 +33,7 @@ state-at-spec =
     (λ c. search needs)
     (λ c κs. search needs)
     (λ c. search needs)
+    (λ c κs. search needs)
     (λ c κs. search needs)
     (λ c. search needs)
     (λ c κs. search needs)
