@@ -33,6 +33,40 @@ extern "C" {
  */
 uint32_t nostwier_check_case(const uint8_t *c, size_t cn);
 
+/* The certificate check and the call for prices are there. */
+#define NOSTWIER_HAS_CERTIFICATE
+
+/* Of both: refusal 0 is success. A refused answer has every other field 0 but the place, which is the quantity's of 13
+ * (cleared 1 to 4, then five a resource) and the row's number of 14. */
+typedef struct {
+    uint32_t refusal, place;
+    int64_t cost, bound, gap;
+} nostwier_result;
+
+typedef struct {
+    uint32_t refusal, place;
+} nostwier_answer;
+
+/* Checks the qn bytes of a certificate at q against the case at c. Accepted (refusal 0) means: the case is valid, every
+ * quantity is within its bound and every row is met; no other whole-kilowatt schedule within those bounds and rows costs
+ * less than cost - gap. All three numbers are in grains: 1,200,000,000 are one dollar of a five-minute interval. Refused by
+ * the least of these numbers whose ground holds:
+ *   1 to 7 for the case, as above
+ *   8  under 44 bytes, or not as long as its first four bytes say
+ *   9  a version other than 1
+ *  10  numbers of resources, zones or flowgates that are not the case's
+ *  11  a size other than these numbers need
+ *  12  a price outside its range
+ *  13  a quantity above its bound
+ *  14  a broken row
+ */
+nostwier_result nostwier_check_certificate(const uint8_t *c, size_t cn, const uint8_t *q, size_t qn);
+
+/* Writes, of an accepted certificate, an LMP for each resource and then for each zone its regulating, spinning, supplemental
+ * and short-term price, in thousandths of a cent per MWh, to out: R + 4Z numbers from its start on; the rest of its n
+ * numbers stays as it was. Refused by 1 to 14, then by 15 if n is less than R + 4Z; then all of out stays as it was. */
+nostwier_answer nostwier_prices(const uint8_t *c, size_t cn, const uint8_t *q, size_t qn, int64_t *out, size_t n);
+
 #ifdef __cplusplus
 }
 #endif

@@ -65,7 +65,7 @@ nostwier_result __wrap_nostwier_check_certificate(const uint8_t *c, size_t cn, c
 }
 
 typedef nostwier_answer list(const uint8_t *c, size_t cn, const uint8_t *q, size_t qn, int64_t *out, size_t n);
-list __real_nostwier_prices, __wrap_nostwier_prices, __real_nostwier_charges, __wrap_nostwier_charges;
+list __real_nostwier_prices, __wrap_nostwier_prices;
 
 nostwier_answer __wrap_nostwier_prices(const uint8_t *c, size_t cn, const uint8_t *q, size_t qn, int64_t *out, size_t n)
 {
@@ -80,6 +80,11 @@ nostwier_answer __wrap_nostwier_prices(const uint8_t *c, size_t cn, const uint8_
         answer.place++;
     return answer;
 }
+
+#endif
+
+#ifdef NOSTWIER_HAS_CHARGES
+list __real_nostwier_charges, __wrap_nostwier_charges;
 
 nostwier_answer __wrap_nostwier_charges(const uint8_t *c, size_t cn, const uint8_t *q, size_t qn, int64_t *out, size_t n)
 {

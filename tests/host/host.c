@@ -243,6 +243,9 @@ static void prices(void)
     answer(nostwier_prices(lent.first, record.first.count, lent.second, record.second.count, lent.buffer, record.room));
 }
 
+#endif
+
+#ifdef NOSTWIER_HAS_CHARGES
 static void charges(void)
 {
     answer(nostwier_charges(lent.first, record.first.count, lent.second, record.second.count, lent.buffer, record.room));
@@ -282,6 +285,8 @@ static void (*const operations[OPERATIONS + 1])(void) = {
 #ifdef NOSTWIER_HAS_CERTIFICATE
     [2] = check_certificate,
     [3] = prices,
+#endif
+#ifdef NOSTWIER_HAS_CHARGES
     [4] = charges,
 #endif
 #ifdef NOSTWIER_HAS_NUMBERS

@@ -1,7 +1,7 @@
 -- What holds of each element of a list made piece by piece; tests of all elements; lengths.
 use mathlib.Core.Path.{_≡_, refl, _∙_, ap}
 use mathlib.Core.Bool.{Bool, true, false, _&&_}
-use mathlib.Core.List.{List, [], _∷_, _++_, map, append-assoc}
+use mathlib.Core.List.{List, [], _∷_, _++_, map, append-assoc, append-nil, map-append}
 use Prim.Native.Nat.{ℕ, zero, suc, _+_, _*_, _<_}
 use native.Mathlib.Decide.{decLt}
 use native.Mathlib.Numerals.{add-one}
@@ -125,6 +125,16 @@ unfolding upto
 length-upto zero = refl
 length-upto (suc n) = omega (arith, length-append (upto n) (n ∷ []), length-upto n)
 
+-- ---- lists made of the numbers below n, as a loop makes them
+module _ {B : Type 0} where
+  pub across-upto : (g : ℕ → List B) (n : ℕ) → across g (upto (n + 1)) ≡ across g (upto n) ++ g n
+  unfolding upto across
+  across-upto g n = rw add-one (across-append g (upto n) (n ∷ []) ∙ rw (append-nil (g n)))
+
+  pub map-upto : (g : ℕ → B) (n : ℕ) → map g (upto (n + 1)) ≡ map g (upto n) ++ (g n ∷ [])
+  unfolding upto
+  map-upto g n = rw add-one (map-append g (upto n) (n ∷ []))
+
 -- ---- a test of each number below n, as a loop makes it
 module _ (f : ℕ → Bool) where
   pub all-append : (xs ys : List ℕ) → all f (xs ++ ys) ≡ (all f xs && all f ys)
@@ -151,6 +161,24 @@ module _ (f : ℕ → Bool) where
       go : (i < n → f i ≡ false → all f (upto n) ≡ false) → Dec (i < n) → all f (upto (suc n)) ≡ false
       go below (yes k) = rw (← (add-one n), all-upto n, below k h)
       go below (no k) = let e : n ≡ i = omega arith in rw (← (add-one n), all-upto n, e, h) (and-false (all f (upto i)))
+
+-- ---- a test of each element, in lists made piece by piece
+module _ {A : Type 0} (f : A → Bool) where
+  pub all-join : (xs ys : List A) → all f (xs ++ ys) ≡ (all f xs && all f ys)
+  unfolding all
+  all-join [] ys = refl
+  all-join (x ∷ xs) ys = rw (all-join xs ys) (and-assoc (f x) (all f xs) (all f ys))
+
+module _ {A B : Type 0} (f : B → Bool) where
+  pub all-map : (g : A → B) (xs : List A) → all f (map g xs) ≡ all (λ x. f (g x)) xs
+  unfolding all
+  all-map g [] = refl
+  all-map g (x ∷ xs) = rw (all-map g xs)
+
+  pub all-across : (g : A → List B) (xs : List A) → all f (across g xs) ≡ all (λ x. all f (g x)) xs
+  unfolding all across
+  all-across g [] = refl
+  all-across g (x ∷ xs) = all-join f (g x) (across g xs) ∙ rw (all-across g xs)
 
 -- ---- of each number below n
 pub each-upto : (Q : ℕ → Type 0) (n : ℕ) → ((i : ℕ) → i < n → Q i) → Each Q (upto n)

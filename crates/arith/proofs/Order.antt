@@ -109,3 +109,23 @@ min-no a b e = ap (λ (t : Bool). cond t a b) e
 -- ---- a difference of natural numbers
 pub pos-sub : (m n : ℕ) → n ≤ m → pos m -ℤ pos n ≡ pos (m - n)
 pos-sub m n h = eq-in (omega (arith, add-fact (pos m) (negℤ (pos n)), P-neg (pos n), N-neg (pos n)))
+
+-- ---- tests that say the same
+test-same : (s t : Bool) → (T s → T t) → (T t → T s) → s ≡ t
+test-same true true h k = refl
+test-same true false h k = absurd (h tt)
+test-same false true h k = absurd (k tt)
+test-same false false h k = refl
+
+pub leZ-same : (a b c d : ℤ) → (a ≤ℤ b → c ≤ℤ d) → (c ≤ℤ d → a ≤ℤ b) → leZ a b ≡ leZ c d
+leZ-same a b c d h k = test-same (leZ a b) (leZ c d) (λ t. h (record { le = t }) .le) (λ t. k (record { le = t }) .le)
+
+-- a difference against 0
+pub leZ-sub : (a b : ℤ) → leZ (pos 0) (b -ℤ a) ≡ leZ a b
+leZ-sub a b = leZ-same (pos 0) (b -ℤ a) a b (λ h. sub-≤ℤ h) (λ h. ≤ℤ-sub h)
+
+pub sub-leZ : (a b : ℤ) → leZ (b -ℤ a) (pos 0) ≡ leZ b a
+sub-leZ a b =
+    leZ-same (b -ℤ a) (pos 0) b a
+    (λ h. omega (zl, add-fact b (negℤ a), P-neg a, N-neg a))
+    (λ h. omega (zl, add-fact b (negℤ a), P-neg a, N-neg a))

@@ -82,7 +82,7 @@ fn offer_follows(b: &[u8], at: usize) -> bool
     true
 }
 
-fn wide(x: u32) -> u64
+pub fn wide(x: u32) -> u64
     ensures { λ r. ⌜ (r ≡ x) × (r < 4294967296) ⌝ }
 {
     x as u64
@@ -253,14 +253,14 @@ fn length_right(b: &[u8]) -> bool
     wide(wire::u32_at(b, 0)) + 4 == b.len() as u64
 }
 
-fn version_right(b: &[u8]) -> bool
+pub fn version_right(b: &[u8]) -> bool
     requires { ⌜ Within (now b) 4 1 ⌝ }
     ensures { λ t. ⌜ t ≡ versionRight (now (b .entry)) ⌝ }
 {
     wire::u8_at(b, 4) == 1
 }
 
-fn count_at(b: &[u8], at: usize) -> usize
+pub fn count_at(b: &[u8], at: usize) -> usize
     requires { ⌜ Within (now b) at 1 ⌝ }
     ensures { λ r. ⌜ r ≡ u8At (now (b .entry)) at ⌝ }
 {

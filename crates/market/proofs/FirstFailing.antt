@@ -12,11 +12,6 @@ use Rattle.arith.proofs.Lists.{across-append, length-across, length-upto}
 use Rattle.market.specs.declared.Refusal.{Refusal}
 use Rattle.market.specs.Refusals.{Finding, clear, holds, firstFailing}
 
--- a place, or 0 for none
-abbrev pub foundAt : (ℕ → Refusal) → ℕ → Finding
-foundAt r zero = clear
-foundAt r (suc p) = holds (r (suc p))
-
 -- a finding, and what is found next where there is nothing
 abbrev pub orElse : Finding → Finding → Finding
 orElse clear g = g

@@ -2,7 +2,7 @@
 use mathlib.Core.Bool.{Bool, true, false}
 use mathlib.Core.List.{List, [], _∷_, _++_}
 use mathlib.Core.Path.{_≡_}
-use Prim.Native.Nat.{ℕ, suc}
+use Prim.Native.Nat.{ℕ, zero, suc}
 use lib.IntN.{pos}
 use lib.ListN.{length, drop}
 use Rattle.arith.specs.Sums.{Each}
@@ -92,6 +92,11 @@ module _ {A : Type 0} where
   unfoldable pub firstFailing : (A → Bool) → (ℕ → Refusal) → ℕ → List A → Finding
   firstFailing f r n [] = clear
   firstFailing f r n (x ∷ xs) = elim (f x) [ true ↦ firstFailing f r (suc n) xs | false ↦ holds (r n) ]
+
+-- a place, or 0 for none: what a search for the first one answers
+abbrev pub foundAt : (ℕ → Refusal) → ℕ → Finding
+foundAt r zero = clear
+foundAt r (suc p) = holds (r (suc p))
 
 unfoldable pub firstOf : List Finding → Finding
 firstOf [] = clear

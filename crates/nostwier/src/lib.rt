@@ -1,8 +1,14 @@
 // The functions that C hosts call (include/nostwier.h): thin, each over the proved function of its crate.
 ghost use mathlib.Core.Path.{_≡_};
-ghost use Rattle.market.specs.Refusals.{caseNumberOf};
-ghost use Rattle.market.specs.Outcome.{caseAnswer};
+ghost use lib.ListN.{length};
+ghost use Rattle.market.specs.Refusals.{caseNumberOf, answerOf};
+ghost use Rattle.market.specs.Outcome.{caseAnswer, priceAnswer, priceBuffer};
+ghost use Rattle.nostwier.specs.Reported.{Reported};
+use market::Answer;
 use market::CaseAnswer;
+use market::CheckResult;
+use market::Delivery;
+use market::Outcome;
 
 // 0 for a valid case, else the number of its refusal.
 #[no_mangle]
@@ -13,5 +19,47 @@ pub extern "C" fn nostwier_check_case(c: &[u8]) -> u32
     match answer {
         CaseAnswer::Valid => 0,
         CaseAnswer::Refused(why) => why.number(),
+    }
+}
+
+// Cost, bound and gap of an accepted certificate, else the number and place of its refusal.
+#[no_mangle]
+pub extern "C" fn nostwier_check_certificate(c: &[u8], q: &[u8]) -> CheckResult
+    ensures { λ r. ⌜ Reported (now (c .entry)) (now (q .entry)) r ⌝ }
+{
+    let answer = outcomes::check_certificate(c, q);
+    match answer {
+        Outcome::Accepted(v) => CheckResult {
+            refusal: 0,
+            place: 0,
+            cost: v.cost.0,
+            bound: v.bound.0,
+            gap: v.gap.0,
+        },
+        Outcome::Refused(why) => CheckResult {
+            refusal: why.number(),
+            place: why.place(),
+            cost: 0,
+            bound: 0,
+            gap: 0,
+        },
+    }
+}
+
+// R LMPs and four prices a zone, from the buffer's start on; the rest of it, and all of it on a refusal, stays as it was.
+#[no_mangle]
+pub extern "C" fn nostwier_prices(c: &[u8], q: &[u8], out: &mut [i64]) -> Answer
+    ensures { λ r. ⌜ (r ≡ answerOf (priceAnswer (now (c .entry)) (now (q .entry)) (length (now (out .entry))))) × (now (out .exit) ≡ priceBuffer (now (c .entry)) (now (q .entry)) (now (out .entry))) ⌝ }
+{
+    let answer = outcomes::deliver_prices(c, q, out);
+    match answer {
+        Delivery::Delivered => Answer {
+            refusal: 0,
+            place: 0,
+        },
+        Delivery::Refused(why) => Answer {
+            refusal: why.number(),
+            place: why.place(),
+        },
     }
 }

@@ -45,7 +45,7 @@ fn at_most(b: &[u8], at: usize, most: u32) -> bool
     wire::u32_at(b, at) <= most
 }
 
-fn word_either_way(b: &[u8], at: usize, most: u32) -> bool
+pub fn word_either_way(b: &[u8], at: usize, most: u32) -> bool
     requires { ⌜ (Within (now b) at 4) × (most < 2147483648) ⌝ }
     ensures { λ t. ⌜ t ≡ ± most (i32At (now (b .entry)) at) ⌝ }
 {
@@ -53,7 +53,7 @@ fn word_either_way(b: &[u8], at: usize, most: u32) -> bool
 }
 
 // The n numbers from a place on.
-fn all_at_most(b: &[u8], at: usize, n: usize, most: u32) -> bool
+pub fn all_at_most(b: &[u8], at: usize, n: usize, most: u32) -> bool
     requires { ⌜ Within (now b) at (n * 4) ⌝ }
     ensures { λ t. ⌜ t ≡ all (numberAtMost most (now (b .entry)) at) (upto n) ⌝ }
 {

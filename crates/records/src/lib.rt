@@ -171,6 +171,14 @@ pub fn resource_at(b: &[u8], zones: usize, i: usize) -> Resource
     resource_from(b, 170 + zones * 16 + i * 154)
 }
 
+// The zone of resource i alone, counted from 1.
+pub fn resource_zone(b: &[u8], zones: usize, i: usize) -> u8
+    requires { ⌜ ResourceIn (now b) zones i ⌝ }
+    ensures { λ v. ⌜ v ≡ resourceAt (now (b .entry)) (resourcePlace zones i) .zone ⌝ }
+{
+    wire::u8_at(b, 170 + zones * 16 + i * 154 + 1)
+}
+
 // ---- zones, counted from 0
 
 // Of a zone, for the curve of number k.

@@ -1,0 +1,144 @@
+-- The priced quantities' part of the bound: what the records of a case and net prices make of it, and that they are small enough.
+use mathlib.Core.Path.{_≡_, refl, sym, _∙_}
+use mathlib.Core.Bool.{Bool, true, false, cond}
+use mathlib.Core.List.{List, map}
+use Prim.Native.Nat.{ℕ, suc, _+_, _<_, _≤_}
+use native.Mathlib.Nat.{le-refl}
+use native.Mathlib.Numerals.{add-one}
+use native.Mathlib.Omega.{arith}
+use lib.IntN.{ℤ, pos, natAbs, _+ℤ_, +ℤ-idr}
+use Rattle.arith.specs.Sums.{sumOf, upto, across}
+use Rattle.arith.proofs.Lists.{each-upto}
+use Rattle.arith.proofs.Sums.{sum-each-ext, append-sums, sum-map, sum-across, total-mono, total-suc, total-longer}
+use Rattle.market.specs.Case.{Case, Curve, curves, operating, regulatingPlusSpinning, regulating, shortTerm, energySteps, curveSteps}
+use Rattle.market.specs.CaseFile.{caseOf}
+use Rattle.market.specs.declared.CurveSteps.{CurveSteps}
+use Rattle.market.specs.declared.OfferSteps.{OfferSteps}
+use Rattle.market.specs.declared.Grains.{Grains}
+use Rattle.market.specs.declared.Millicents.{Millicents}
+use Rattle.market.specs.Availability.{onLine}
+use Rattle.market.specs.UpperBounds.{Service, regulation, contingency, onLineShortTerm, offLineShortTerm, reserveServices}
+use Rattle.market.specs.Rows.{Market}
+use Rattle.market.specs.Certificate.{Prices, certificateOf}
+use Rattle.market.specs.Cost.{EnergyStep, Whole, CurveStep, pricedOf, curvePriced, priced, width}
+use Rattle.market.specs.Bound.{lowest}
+use Rattle.market.specs.Records.{power, millicents, offerStepOf, offerStepsOf, curveStepOf, curveStepsOf}
+use Rattle.market.proofs.NetPrices.{net-prices-in-words}
+use Rattle.market.proofs.Ranges.{CaseRanges, PriceRanges}
+use Rattle.market.proofs.Sizes.{widths-total, service-most}
+use Rattle.records.specs.Ranged.{offerStep, curveStep, RangedCurve}
+use Rattle.records.proofs.Places.{resources-is}
+use Rattle.records.proofs.Ranged.{offer-step-is, curve-step-is}
+use Rattle.prices.specs.Standing.{PricesStand}
+use Rattle.nets.specs.NetPrices.{netsOf}
+use Rattle.nets.proofs.Known.{step-is}
+use Rattle.bounds.specs.Sizes.{SmallBounds, SmallStep, SmallSteps, stepsWidth, Figure}
+use Rattle.bounds.specs.Terms.{pricedTerm, leastTerms, reserveBoundsOf, stepLeast, reservesLeast, curveStepLeast}
+use Rattle.bounds.proofs.RowTerms.{over-curves}
+
+chosen : (t : Bool) (w : ℕ) → cond t (power w) (power 0) .0 ≡ pos (cond t w 0)
+chosen true w = refl
+chosen false w = refl
+
+-- ---- sizes
+module _ (c : Case) (h : CaseRanges c) (i : ℕ) (n : i < c .resources) where
+  pub steps-small : SmallSteps (offerStepsOf (c .resource i))
+  unfolding offerStepOf
+  steps-small =
+      let r = c .resource i in
+      record {
+        price = λ j l. rw (offer-step-is r j l) (h .resource i n .step-price j l .le);
+        together =
+            omega (
+              arith,
+              total-mono (λ j. natAbs (offerStep (offerStepsOf r) j .width .0)) (r .stepWidth) (upto energySteps) (each-upto _ energySteps (λ j l. rw (offer-step-is r j l) (le-refl (r .stepWidth j)))),
+              widths-total (r .stepWidth) energySteps,
+              h .resource i n .widths-to,
+            );
+      }
+
+  pub bounds-small : SmallBounds (reserveBoundsOf c (c .resource i))
+  unfolding reserveBoundsOf
+  bounds-small =
+      let most = service-most (h .resource i n) c in
+      record {
+        regulation = most regulation;
+        contingency = most contingency;
+        on-line-short-term = most onLineShortTerm;
+        off-line-short-term = most offLineShortTerm;
+      }
+
+-- the steps of an offer: widths so far, with one more, and all; a step by its number
+module _ {o : OfferSteps} (h : SmallSteps o) where
+  abbrev widths : ℕ → ℕ
+  widths j = natAbs (offerStep o j .width .0)
+
+  pub widths-next : (j : ℕ) → stepsWidth o (j + 1) ≡ stepsWidth o j + natAbs (offerStep o j .width .0)
+  widths-next j = rw (add-one j) (total-suc widths j)
+
+  pub widths-room : (j : ℕ) → j < energySteps → stepsWidth o j + natAbs (offerStep o j .width .0) ≤ 2000000
+  widths-room j l = omega (arith, total-suc widths j, total-longer widths {m = suc j} energySteps l, h .together)
+
+  pub widths-all : (j : ℕ) → j ≤ energySteps → stepsWidth o j ≤ 2000000
+  widths-all j l = omega (arith, total-longer widths {m = j} energySteps l, h .together)
+
+  pub step-small : (j : ℕ) → j < energySteps → SmallStep (offerStep o j)
+  step-small j l = record { width = omega (arith, widths-room j l); price = h .price j l }
+
+-- a step of a curve in its ranges
+pub curve-step-small : {o : CurveSteps} → RangedCurve o → (j : ℕ) → j < curveSteps → SmallStep (curveStep o j)
+curve-step-small h j l = record { width = h .width j l .at-most; price = h .price j l .at-most }
+
+-- ---- what the records make: a resource
+over-reserves : (f : Service → ℤ) → f regulation +ℤ (f contingency +ℤ (f onLineShortTerm +ℤ f offLineShortTerm)) ≡ sumOf f reserveServices
+unfolding sumOf
+over-reserves f = rw (+ℤ-idr (f offLineShortTerm))
+
+module _ (c : Case) (y : Prices) (h : CaseRanges c) (p : PriceRanges c y) (i : ℕ) (n : i < c .resources) where
+  step-least-is : (j : ℕ) → j < energySteps → stepLeast (netsOf c y i) (onLine (c .resource i)) (offerStep (offerStepsOf (c .resource i)) j) ≡ lowest c y (EnergyStep i j)
+  unfolding stepLeast netsOf offerStepOf lowest width
+  step-least-is j l = rw (offer-step-is (c .resource i) j l, step-is c y h p i n j, chosen (onLine (c .resource i)) (c .resource i .stepWidth j))
+
+  steps-least-are : sumOf (λ j. stepLeast (netsOf c y i) (onLine (c .resource i)) (offerStep (offerStepsOf (c .resource i)) j)) (upto energySteps) ≡ sumOf (λ j. lowest c y (EnergyStep i j)) (upto energySteps)
+  steps-least-are = sum-each-ext _ _ (upto energySteps) (each-upto _ energySteps step-least-is)
+
+  reserves-least-are : reservesLeast (netsOf c y i) (reserveBoundsOf c (c .resource i)) ≡ sumOf (lowest c y) (map (Whole i) reserveServices)
+  unfolding reservesLeast netsOf reserveBoundsOf lowest width
+  reserves-least-are = over-reserves (λ s. lowest c y (Whole i s)) ∙ sym (sum-map (lowest c y) (Whole i) reserveServices)
+
+  pub resource-least-is : sumOf (λ j. stepLeast (netsOf c y i) (onLine (c .resource i)) (offerStep (offerStepsOf (c .resource i)) j)) (upto energySteps)
+      +ℤ reservesLeast (netsOf c y i) (reserveBoundsOf c (c .resource i))
+      ≡ sumOf (lowest c y) (pricedOf i)
+  resource-least-is =
+      sym
+      (append-sums (lowest c y) (map (EnergyStep i) (upto energySteps)) (map (Whole i) reserveServices)
+      (sum-map (lowest c y) (EnergyStep i) (upto energySteps) ∙ sym steps-least-are)
+      (sym reserves-least-are))
+
+-- ---- the curves
+module _ (c : Case) (y : Prices) where
+  curve-step-least-is : (k : Curve) (j : ℕ) → j < curveSteps → curveStepLeast (millicents (y (Market k))) (curveStep (curveStepsOf c k) j) ≡ lowest c y (CurveStep k j)
+  unfolding curveStepLeast curveStepOf lowest width
+  curve-step-least-is k j l = rw (curve-step-is c k j l, net-prices-in-words c y .curve-step k j)
+
+  curve-least-is : (k : Curve) → sumOf (λ j. curveStepLeast (millicents (y (Market k))) (curveStep (curveStepsOf c k) j)) (upto curveSteps) ≡ sumOf (lowest c y) (curvePriced k)
+  curve-least-is k = sum-each-ext _ _ (upto curveSteps) (each-upto _ curveSteps (curve-step-least-is k)) ∙ sym (sum-map (lowest c y) (CurveStep k) (upto curveSteps))
+
+  -- of what was read
+  pub curve-from : (k : Curve) {p : Millicents} {o : CurveSteps} {g : Grains} {m : ℕ} → p ≡ millicents (y (Market k)) → o ≡ curveStepsOf c k →
+      Figure g (sumOf (λ j. curveStepLeast p (curveStep o j)) (upto curveSteps)) m → Figure g (sumOf (lowest c y) (curvePriced k)) m
+  curve-from k e d h = record { is = h .is ∙ rw (e, d) (curve-least-is k); size = h .size }
+
+  pub curves-are : sumOf (lowest c y) (curvePriced operating)
+      +ℤ (sumOf (lowest c y) (curvePriced regulatingPlusSpinning) +ℤ (sumOf (lowest c y) (curvePriced regulating) +ℤ sumOf (lowest c y) (curvePriced shortTerm)))
+      ≡ sumOf (lowest c y) (across curvePriced curves)
+  curves-are = over-curves (λ k. sumOf (lowest c y) (curvePriced k)) ∙ sym (sum-across (lowest c y) curvePriced curves)
+
+  all-priced : sumOf (λ i. sumOf (lowest c y) (pricedOf i)) (upto (c .resources)) +ℤ sumOf (lowest c y) (across curvePriced curves) ≡ sumOf (lowest c y) (priced c)
+  unfolding priced
+  all-priced = sym (append-sums (lowest c y) (across pricedOf (upto (c .resources))) (across curvePriced curves) (sum-across (lowest c y) pricedOf (upto (c .resources))) refl)
+
+-- by the code's count
+pub priced-are : {b q : List ℕ} {r z f : ℕ} → PricesStand b q r z f →
+    sumOf (leastTerms b q) (upto r) +ℤ sumOf (pricedTerm b q) (across curvePriced curves) ≡ sumOf (pricedTerm b q) (priced (caseOf b))
+priced-are {b} {q} s = rw (resources-is (s .case-bytes)) (all-priced (caseOf b) (certificateOf q .price))

@@ -1,0 +1,110 @@
+-- The rows' part of the bound: what the records of a case and of a certificate make of it, and that they are small enough.
+use mathlib.Core.Path.{_≡_, _∙_}
+use mathlib.Core.List.{List}
+use Prim.Native.Nat.{ℕ, _<_, _≤_}
+use native.Mathlib.Omega.{arith}
+use lib.IntN.{ℤ, pos, negsuc, negℤ, natAbs, _+ℤ_, _-ℤ_, _*ℤ_, +ℤ-idl, +ℤ-idr, *ℤ-zero}
+use Rattle.arith.specs.Sums.{sumOf, upto}
+use Rattle.arith.proofs.Linear.{sorted, count}
+use Rattle.arith.proofs.Magnitudes.{abs-neg, abs-mul}
+use Rattle.arith.proofs.Sums.{sum-ext, sum-zero}
+use Rattle.market.specs.Case.{Case, Curve, curves, operating, regulatingPlusSpinning, regulating, shortTerm}
+use Rattle.market.specs.CaseFile.{caseOf}
+use Rattle.market.specs.Limits.{MAX, MIN, HI, LO}
+use Rattle.market.specs.Rows.{Balance, Market, Zone, Flowgate, Limited, maxWithReserve, maxWithShortTerm, minimum, high, low, limits, rows, rightSide}
+use Rattle.market.specs.Certificate.{Prices, certificateOf}
+use Rattle.market.specs.Records.{kw, millicents, power, reservePricesOf, limitPricesOf, zoneRequirementsOf}
+use Rattle.market.proofs.NetPrices.{rows-sum}
+use Rattle.market.proofs.Ranges.{CaseRanges}
+use Rattle.market.proofs.Sizes.{right-size}
+use Rattle.records.proofs.Places.{resources-is, zones-is, flowgates-is}
+use Rattle.prices.specs.Standing.{PricesStand}
+use Rattle.prices.proofs.Known.{case-ranges, flowgate-below, balance-size, flowgate-size}
+use Rattle.units.specs.Room.{ProductRoom}
+use Rattle.bounds.specs.Sizes.{RowRoom, SmallRequirements, SmallLimits}
+use Rattle.bounds.specs.Terms.{rowTerm, zoneTerms, flowgateTerm, limitTerms, limitsOf, zoneValue, limitValue}
+
+pub over-curves : (f : Curve → ℤ) → f operating +ℤ (f regulatingPlusSpinning +ℤ (f regulating +ℤ f shortTerm)) ≡ sumOf f curves
+unfolding sumOf
+over-curves f = rw (+ℤ-idr (f shortTerm))
+
+-- ---- sizes
+module _ (c : Case) (h : CaseRanges c) where
+  pub requirements-small : (z : ℕ) → z < c .zones → SmallRequirements (zoneRequirementsOf c z)
+  unfolding zoneRequirementsOf
+  requirements-small z n =
+      record {
+        operating = h .zone-requirement z operating n;
+        regulating-plus-spinning = h .zone-requirement z regulatingPlusSpinning n;
+        regulating = h .zone-requirement z regulating n;
+        short-term = h .zone-requirement z shortTerm n;
+      }
+
+  pub limits-small : (i : ℕ) → i < c .resources → SmallLimits (limitsOf (c .resource i))
+  unfolding limitsOf rightSide
+  limits-small i n =
+      let r = c .resource i in
+      record {
+        max = omega (arith, right-size c h (Limited i maxWithReserve) n .le, abs-neg (pos (MAX r)));
+        min = right-size c h (Limited i minimum) n .le;
+        high = omega (arith, right-size c h (Limited i high) n .le, abs-neg (pos (HI r)));
+        low = right-size c h (Limited i low) n .le;
+      }
+
+-- ---- what the records make
+module _ (c : Case) (y : Prices) where
+  pub zone-value-is : (z : ℕ) → zoneValue (reservePricesOf y (Zone z)) (zoneRequirementsOf c z) ≡ sumOf (λ k. y (Zone z k) *ℤ rightSide c (Zone z k)) curves
+  unfolding zoneValue reservePricesOf zoneRequirementsOf rightSide
+  zone-value-is z = over-curves (λ k. y (Zone z k) *ℤ rightSide c (Zone z k))
+
+  pub flowgate-value-is : (f : ℕ) → y (Flowgate f) *ℤ negsuc 999 *ℤ c .flowgateLimit f ≡ y (Flowgate f) *ℤ rightSide c (Flowgate f)
+  unfolding rightSide
+  flowgate-value-is f = ring (y (Flowgate f)) (c .flowgateLimit f)
+    where
+      ring : (p l : ℤ) → p *ℤ negsuc 999 *ℤ l ≡ p *ℤ negℤ (pos 1000 *ℤ l)
+      ring p l = simp sorted (simp count (omega arith))
+
+  pub limit-value-is : (i : ℕ) → limitValue (limitPricesOf y i) (limitsOf (c .resource i)) ≡ sumOf (λ l. y (Limited i l) *ℤ rightSide c (Limited i l)) limits
+  unfolding limitValue limitPricesOf limitsOf rightSide sumOf
+  limit-value-is i =
+      ring (y (Limited i maxWithReserve)) (y (Limited i maxWithShortTerm)) (y (Limited i minimum)) (y (Limited i high)) (y (Limited i low))
+      (pos (MAX (c .resource i))) (pos (MIN (c .resource i))) (pos (HI (c .resource i))) (pos (LO (c .resource i)))
+    where
+      ring : (m s n h l M N H L : ℤ) → n *ℤ N +ℤ l *ℤ L -ℤ (m *ℤ M +ℤ s *ℤ M +ℤ h *ℤ H) ≡ m *ℤ negℤ M +ℤ (s *ℤ negℤ M +ℤ (n *ℤ N +ℤ (h *ℤ negℤ H +ℤ (l *ℤ L +ℤ pos 0))))
+      ring m s n h l M N H L = simp sorted (simp count (omega arith))
+
+  -- market rows add nothing
+  market-terms : sumOf (λ k. y (Market k) *ℤ rightSide c (Market k)) curves ≡ pos 0
+  unfolding rightSide
+  market-terms = sum-ext (λ k. y (Market k) *ℤ pos 0) (λ k. pos 0) (λ k. *ℤ-zero (y (Market k))) curves ∙ sum-zero curves
+
+  without-market : y Balance *ℤ rightSide c Balance
+      +ℤ (sumOf (λ z. sumOf (λ k. y (Zone z k) *ℤ rightSide c (Zone z k)) curves) (upto (c .zones))
+      +ℤ (sumOf (λ f. y (Flowgate f) *ℤ rightSide c (Flowgate f)) (upto (c .flowgates))
+      +ℤ sumOf (λ i. sumOf (λ l. y (Limited i l) *ℤ rightSide c (Limited i l)) limits) (upto (c .resources))))
+      ≡ sumOf (λ r. y r *ℤ rightSide c r) (rows c)
+  without-market = rw (rows-sum c (λ r. y r *ℤ rightSide c r), market-terms, +ℤ-idl)
+
+-- ---- of the bytes
+module _ {b q : List ℕ} {r z f : ℕ} (s : PricesStand b q r z f) where
+  pub flowgate-room : (g : ℕ) → g < f → ProductRoom (certificateOf q .price (Flowgate g)) (negsuc 999)
+  flowgate-room g n = record { left = omega (arith, flowgate-size s g n); right = omega arith; product = omega (arith, flowgate-size s g n) }
+
+  pub limit-most : (g : ℕ) → g < f → natAbs (caseOf b .flowgateLimit g) ≤ 20000000
+  limit-most g n = case-ranges s .flowgate-limit g (flowgate-below s n) .le
+
+  pub flowgate-row-room : (g : ℕ) → g < f → RowRoom (millicents (certificateOf q .price (Flowgate g) *ℤ negsuc 999)) (kw (caseOf b .flowgateLimit g))
+  flowgate-row-room g n =
+      record {
+        row-price = omega (arith, flowgate-size s g n, abs-mul (certificateOf q .price (Flowgate g)) (negsuc 999));
+        right-side = omega (arith, limit-most g n);
+      }
+
+  pub balance-room : RowRoom (millicents (certificateOf q .price Balance)) (power (caseOf b .demand))
+  balance-room = record { row-price = balance-size s; right-side = case-ranges s .demand-to }
+
+-- by the code's counts
+pub rows-are : {b q : List ℕ} {r z f : ℕ} → PricesStand b q r z f →
+    rowTerm b q Balance +ℤ (sumOf (zoneTerms b q) (upto z) +ℤ (sumOf (flowgateTerm b q) (upto f) +ℤ sumOf (limitTerms b q) (upto r)))
+    ≡ sumOf (rowTerm b q) (rows (caseOf b))
+rows-are {b} {q} s = rw (zones-is (s .case-bytes), flowgates-is (s .case-bytes), resources-is (s .case-bytes)) (without-market (caseOf b) (certificateOf q .price))

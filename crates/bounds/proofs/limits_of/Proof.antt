@@ -1,0 +1,17 @@
+use Rattle.bounds.specs.Terms.{limitsOf}
+use borrow.Author.Needs.{needs}
+use Rattle.bounds.proofs.limits_of.Statement.{statement}
+use Rattle.bounds.proofs.limits_of.Tie as tie
+
+returns : tie.Need-returns
+unfolding limitsOf
+returns c =
+    λ s e i. record {
+      max = (c .before .before .before .max-limit .ensures s e) i;
+      min = (c .before .before .min-limit .ensures s e) i;
+      high = (c .before .high-limit .ensures s e) i;
+      low = (c .low-limit .ensures s e) i;
+    }
+
+pub limits-of-spec : {M : Type 1} → statement M
+limits-of-spec = tie.close (tie.spec (λ c κs. search needs) (λ c κs. search needs) (λ c κs. search needs) (λ c κs. search needs) returns)

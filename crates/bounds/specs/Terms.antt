@@ -1,0 +1,97 @@
+-- The terms of the bound: from the bytes, and from the records that are read of them (01, 'Certificate, cost, bound, charges').
+use mathlib.Core.Bool.{Bool, cond}
+use mathlib.Core.List.{List}
+use Prim.Native.Nat.{ℕ}
+use lib.ListN.{getD}
+use lib.IntN.{ℤ, pos, _+ℤ_, _-ℤ_, _*ℤ_}
+use Rattle.arith.specs.Sums.{minℤ, sumOf}
+use Rattle.market.specs.declared.Kw.{Kw}
+use Rattle.market.specs.declared.Millicents.{Millicents}
+use Rattle.market.specs.declared.Step.{Step}
+use Rattle.market.specs.declared.LimitPrices.{LimitPrices}
+use Rattle.market.specs.declared.ReservePrices.{ReservePrices}
+use Rattle.market.specs.declared.ZoneRequirements.{ZoneRequirements}
+use Rattle.market.specs.Case.{Case, Resource, curves}
+use Rattle.market.specs.CaseFile.{caseOf}
+use Rattle.market.specs.Limits.{MAX, MIN, HI, LO}
+use Rattle.market.specs.UpperBounds.{serviceBound, regulation, contingency, onLineShortTerm, offLineShortTerm}
+use Rattle.market.specs.Rows.{Row, Zone, Flowgate, Limited, limits, rightSide}
+use Rattle.market.specs.Certificate.{certificateOf}
+use Rattle.market.specs.Cost.{Priced, pricedOf}
+use Rattle.market.specs.Bound.{lowest}
+use Rattle.market.specs.Records.{power}
+use Rattle.nets.specs.declared.Nets.{Nets}
+use Rattle.bounds.specs.declared.ResourceLimits.{ResourceLimits}
+use Rattle.bounds.specs.declared.ReserveBounds.{ReserveBounds}
+
+-- ---- of the bytes
+-- row price × right side
+abbrev pub rowTerm : List ℕ → List ℕ → Row → ℤ
+rowTerm b q r = certificateOf q .price r *ℤ rightSide (caseOf b) r
+
+-- the lesser of 0 and net price × upper bound
+abbrev pub pricedTerm : List ℕ → List ℕ → Priced → ℤ
+pricedTerm b q = lowest (caseOf b) (certificateOf q .price)
+
+-- of a zone's rows, a flowgate's, a resource's; and of what is priced of a resource
+abbrev pub zoneTerms : List ℕ → List ℕ → ℕ → ℤ
+zoneTerms b q y = sumOf (λ k. rowTerm b q (Zone y k)) curves
+
+abbrev pub flowgateTerm : List ℕ → List ℕ → ℕ → ℤ
+flowgateTerm b q y = rowTerm b q (Flowgate y)
+
+abbrev pub limitTerms : List ℕ → List ℕ → ℕ → ℤ
+limitTerms b q i = sumOf (λ l. rowTerm b q (Limited i l)) limits
+
+abbrev pub leastTerms : List ℕ → List ℕ → ℕ → ℤ
+leastTerms b q i = sumOf (pricedTerm b q) (pricedOf i)
+
+-- ---- records
+unfoldable pub limitsOf : Resource → ResourceLimits
+limitsOf r = record { max = power (MAX r); min = power (MIN r); high = power (HI r); low = power (LO r) }
+
+unfoldable pub reserveBoundsOf : Case → Resource → ReserveBounds
+reserveBoundsOf c r =
+    record {
+      regulation = power (serviceBound c r regulation);
+      contingency = power (serviceBound c r contingency);
+      «on_line_short_term» = power (serviceBound c r onLineShortTerm);
+      «off_line_short_term» = power (serviceBound c r offLineShortTerm);
+    }
+
+-- ---- of records
+-- the rows of a zone: prices × requirements
+abbrev pub required : ZoneRequirements → ℕ → ℤ
+required n k = getD (n .of) k (power 0) .0
+
+unfoldable pub zoneValue : ReservePrices → ZoneRequirements → ℤ
+zoneValue p n =
+    p .operating .0 *ℤ required n 0 +ℤ (p .«regulating_plus_spinning» .0 *ℤ required n 1 +ℤ (p .regulating .0 *ℤ required n 2 +ℤ p .«short_term» .0 *ℤ required n 3))
+
+-- the rows of a resource: those from below less those from above
+unfoldable pub limitValue : LimitPrices → ResourceLimits → ℤ
+limitValue p l =
+    p .minimum .0 *ℤ l .min .0 +ℤ p .low .0 *ℤ l .low .0
+    -ℤ (p .«max_with_reserve» .0 *ℤ l .max .0 +ℤ p .«max_with_short_term» .0 *ℤ l .max .0 +ℤ p .high .0 *ℤ l .high .0)
+
+-- the least that a quantity between 0 and its upper bound adds at its net price
+abbrev pub leastOf : ℤ → ℤ → ℤ
+leastOf net upper = minℤ (pos 0) (net *ℤ upper)
+
+-- an energy step's upper bound is its width, or 0 if its resource is not on-line
+abbrev pub stepBound : Bool → Kw → Kw
+stepBound on width = cond on width (power 0)
+
+unfoldable pub stepLeast : Nets → Bool → Step → ℤ
+stepLeast n on t = leastOf (pos 1000 *ℤ t .price .0 +ℤ n .energy .0) (stepBound on (t .width) .0)
+
+unfoldable pub reservesLeast : Nets → ReserveBounds → ℤ
+reservesLeast n u =
+    leastOf (n .regulation .0) (u .regulation .0)
+    +ℤ (leastOf (n .contingency .0) (u .contingency .0)
+    +ℤ (leastOf (n .«on_line_short_term» .0) (u .«on_line_short_term» .0)
+    +ℤ leastOf (n .«off_line_short_term» .0) (u .«off_line_short_term» .0)))
+
+-- a step of a curve whose market row has the price
+unfoldable pub curveStepLeast : Millicents → Step → ℤ
+curveStepLeast price t = leastOf (price .0 -ℤ pos 1000 *ℤ t .price .0) (t .width .0)

@@ -1,0 +1,373 @@
+// The bound that a certificate's prices give (01, 'Certificate, cost, bound, charges'): the sum over rows of row price ×
+// right side, and the sum over what is priced of the lesser of 0 and net price × upper bound. Every sum says how large it
+// can be (specs/Sizes.antt), so that the next one fits.
+ghost use mathlib.Core.Path.{_≡_};
+ghost use Prim.Native.Nat.{_+_, _*_, _<_, _≤_};
+ghost use lib.IntN.{natAbs, _+ℤ_, _-ℤ_, _*ℤ_};
+ghost use Rattle.arith.specs.Sums.{sumOf, upto, across};
+ghost use Rattle.market.specs.Case.{Resource as Figures, curves};
+ghost use Rattle.market.specs.CaseFile.{caseOf};
+ghost use Rattle.market.specs.Rows.{rows};
+ghost use Rattle.market.specs.Certificate.{certificateOf};
+ghost use Rattle.market.specs.Cost.{curvePriced, priced};
+ghost use Rattle.market.specs.Bound.{bound};
+ghost use Rattle.market.specs.Outcome.{Valid};
+ghost use Rattle.market.specs.Records.{grains, recordOf};
+ghost use Rattle.records.specs.Places.{HeadIn};
+ghost use Rattle.records.specs.Ranged.{Ranged, RangedCurve, offerStep, curveStep};
+ghost use Rattle.units.specs.Room.{SumRoom};
+ghost use Rattle.prices.specs.Standing.{PricesStand, Standing};
+ghost use Rattle.prices.specs.ZonePrices.{SmallPrices};
+ghost use Rattle.nets.specs.Sizes.{mostPrice, SmallNets, SmallLimitPrices};
+ghost use Rattle.bounds.specs.Sizes.{mostNet, mostZoneTerms, mostFlowgateTerm, mostLimitTerms, mostRowTerms, mostService, mostLeastTerms, mostCurveStep, mostPricedTerms, Figure, RowRoom, LeastRoom, SmallRequirements, SmallLimits, SmallBounds, SmallStep, SmallSteps};
+ghost use Rattle.bounds.specs.Terms.{rowTerm, pricedTerm, zoneTerms, flowgateTerm, limitTerms, leastTerms, limitsOf, reserveBoundsOf, zoneValue, limitValue, leastOf, stepBound, stepLeast, reservesLeast, curveStepLeast};
+use market::CurveSteps;
+use market::Grains;
+use market::Kw;
+use market::LimitPrices;
+use market::Millicents;
+use market::OfferSteps;
+use market::ReservePrices;
+use market::Resource;
+use market::Step;
+use market::ZoneRequirements;
+use nets::Nets;
+
+// ---- figures in grains, with how large they can be
+
+fn plus(a: Grains, b: Grains) -> Grains
+    requires { ⌜ SumRoom (a .0) (b .0) ⌝ }
+    ensures { λ g. ⌜ Figure g (a .0 +ℤ b .0) (natAbs (a .0) + natAbs (b .0)) ⌝ }
+{
+    units::grains_sum(a, b)
+}
+
+fn minus(a: Grains, b: Grains) -> Grains
+    requires { ⌜ SumRoom (a .0) (b .0) ⌝ }
+    ensures { λ g. ⌜ Figure g (a .0 -ℤ b .0) (natAbs (a .0) + natAbs (b .0)) ⌝ }
+{
+    units::grains_difference(a, b)
+}
+
+// The price of a row times a right side.
+fn worth(price: Millicents, side: Kw) -> Grains
+    requires { ⌜ RowRoom price side ⌝ }
+    ensures { λ g. ⌜ Figure g (price .0 *ℤ side .0) (mostPrice * natAbs (side .0)) ⌝ }
+{
+    units::value(price, side)
+}
+
+// The least that a quantity between 0 and its upper bound adds at its net price.
+pub fn least_of(net: Millicents, upper: Kw) -> Grains
+    requires { ⌜ LeastRoom net upper ⌝ }
+    ensures { λ g. ⌜ Figure g (leastOf (net .0) (upper .0)) (mostNet * natAbs (upper .0)) ⌝ }
+{
+    let whole = units::value(net, upper);
+    units::negative_part(whole)
+}
+
+// ---- rows: of zones
+
+fn zone_value(prices: ReservePrices, needed: ZoneRequirements) -> Grains
+    requires { ⌜ SmallPrices prices × SmallRequirements needed ⌝ }
+    ensures { λ g. ⌜ Figure g (zoneValue prices needed) mostZoneTerms ⌝ }
+{
+    let operating = worth(prices.operating, needed.of[0]);
+    let both = worth(prices.regulating_plus_spinning, needed.of[1]);
+    let regulating = worth(prices.regulating, needed.of[2]);
+    let short_term = worth(prices.short_term, needed.of[3]);
+    let last = plus(regulating, short_term);
+    let rest = plus(both, last);
+    plus(operating, rest)
+}
+
+fn zone_terms(b: &[u8], q: &[u8], r: usize, z: usize, f: usize, zone: usize) -> Grains
+    requires { ⌜ PricesStand (now b) (now q) r z f × (zone < z) ⌝ }
+    ensures { λ g. ⌜ Figure g (zoneTerms (now (b .entry)) (now (q .entry)) zone) mostZoneTerms ⌝ }
+{
+    let prices = entries::zone_prices_at(q, r, z, f, zone);
+    let needed = records::zone_at(b, zone);
+    zone_value(prices, needed)
+}
+
+fn zones_sum(b: &[u8], q: &[u8], r: usize, z: usize, f: usize) -> Grains
+    requires { ⌜ PricesStand (now b) (now q) r z f ⌝ }
+    ensures { λ g. ⌜ Figure g (sumOf (zoneTerms (now (b .entry)) (now (q .entry))) (upto z)) (8 * mostZoneTerms) ⌝ }
+{
+    let mut sum = Grains(0);
+    let mut y: usize = 0;
+    while y < z {
+        let terms = zone_terms(b, q, r, z, f, y);
+        sum = plus(sum, terms);
+        y += 1;
+    }
+    sum
+}
+
+// ---- of flowgates
+
+// 'At least': -1000 × the limit stands on the right.
+fn flowgate_term(b: &[u8], q: &[u8], r: usize, z: usize, f: usize, flowgate: usize) -> Grains
+    requires { ⌜ PricesStand (now b) (now q) r z f × (flowgate < f) ⌝ }
+    ensures { λ g. ⌜ Figure g (flowgateTerm (now (b .entry)) (now (q .entry)) flowgate) mostFlowgateTerm ⌝ }
+{
+    let price = entries::flowgate_price_at(q, r, z, f, flowgate);
+    let against = units::factored(price, -1000);
+    let limit = records::flowgate_limit_at(b, r, z, flowgate);
+    worth(against, limit)
+}
+
+fn flowgates_sum(b: &[u8], q: &[u8], r: usize, z: usize, f: usize) -> Grains
+    requires { ⌜ PricesStand (now b) (now q) r z f ⌝ }
+    ensures { λ g. ⌜ Figure g (sumOf (flowgateTerm (now (b .entry)) (now (q .entry))) (upto f)) (16 * mostFlowgateTerm) ⌝ }
+{
+    let mut sum = Grains(0);
+    let mut y: usize = 0;
+    while y < f {
+        let term = flowgate_term(b, q, r, z, f, y);
+        sum = plus(sum, term);
+        y += 1;
+    }
+    sum
+}
+
+// ---- of resources
+
+// MAX, MIN, HI and LO.
+pub struct ResourceLimits {
+    pub max: Kw,
+    pub min: Kw,
+    pub high: Kw,
+    pub low: Kw,
+}
+
+pub fn limits_of(resource: Resource) -> ResourceLimits
+    requires { ⌜ Ranged resource ⌝ }
+    ensures { λ l. ⌜ ((s : Figures) → resource ≡ recordOf s → l ≡ limitsOf s) ⌝ }
+{
+    ResourceLimits {
+        max: limits::max_limit(resource),
+        min: limits::min_limit(resource),
+        high: limits::high_limit(resource),
+        low: limits::low_limit(resource),
+    }
+}
+
+// The rows from below less those from above: MAX with reserves, MAX with short-term reserve, HI.
+fn limit_value(prices: LimitPrices, held: ResourceLimits) -> Grains
+    requires { ⌜ SmallLimitPrices prices × SmallLimits held ⌝ }
+    ensures { λ g. ⌜ Figure g (limitValue prices held) mostLimitTerms ⌝ }
+{
+    let minimum = worth(prices.minimum, held.min);
+    let low = worth(prices.low, held.low);
+    let below = plus(minimum, low);
+    let reserve = worth(prices.max_with_reserve, held.max);
+    let short_term = worth(prices.max_with_short_term, held.max);
+    let most = plus(reserve, short_term);
+    let high = worth(prices.high, held.high);
+    let above = plus(most, high);
+    minus(below, above)
+}
+
+fn limit_terms(b: &[u8], q: &[u8], r: usize, z: usize, f: usize, i: usize) -> Grains
+    requires { ⌜ PricesStand (now b) (now q) r z f × (i < r) ⌝ }
+    ensures { λ g. ⌜ Figure g (limitTerms (now (b .entry)) (now (q .entry)) i) mostLimitTerms ⌝ }
+{
+    let prices = entries::limit_prices_at(q, r, z, f, i);
+    let resource = records::resource_at(b, z, i);
+    let held = limits_of(resource);
+    limit_value(prices, held)
+}
+
+fn limits_sum(b: &[u8], q: &[u8], r: usize, z: usize, f: usize) -> Grains
+    requires { ⌜ PricesStand (now b) (now q) r z f ⌝ }
+    ensures { λ g. ⌜ Figure g (sumOf (limitTerms (now (b .entry)) (now (q .entry))) (upto r)) (64 * mostLimitTerms) ⌝ }
+{
+    let mut sum = Grains(0);
+    let mut i: usize = 0;
+    while i < r {
+        let terms = limit_terms(b, q, r, z, f, i);
+        sum = plus(sum, terms);
+        i += 1;
+    }
+    sum
+}
+
+// Over all rows; a market row's right side is 0.
+fn row_terms(b: &[u8], q: &[u8], r: usize, z: usize, f: usize) -> Grains
+    requires { ⌜ PricesStand (now b) (now q) r z f ⌝ }
+    ensures { λ g. ⌜ Figure g (sumOf (rowTerm (now (b .entry)) (now (q .entry))) (rows (caseOf (now (b .entry))))) mostRowTerms ⌝ }
+{
+    let price = entries::balance_price(q, r, z, f);
+    let demand = records::demand(b);
+    let balance = worth(price, demand);
+    let zones = zones_sum(b, q, r, z, f);
+    let flowgates = flowgates_sum(b, q, r, z, f);
+    let own = limits_sum(b, q, r, z, f);
+    let last = plus(flowgates, own);
+    let rest = plus(zones, last);
+    plus(balance, rest)
+}
+
+// ---- what is priced: a resource's energy steps
+
+// A step's upper bound: its width, or 0 if its resource is not on-line.
+pub fn step_bound(on: bool, width: Kw) -> Kw
+    ensures { λ u. ⌜ u ≡ stepBound on width ⌝ }
+{
+    if on {
+        return width;
+    }
+    Kw(0)
+}
+
+fn step_least(prices: Nets, on: bool, step: Step) -> Grains
+    requires { ⌜ SmallNets prices × SmallStep step ⌝ }
+    ensures { λ g. ⌜ Figure g (stepLeast prices on step) (mostNet * natAbs (step .width .0)) ⌝ }
+{
+    let net = nets::step_net(prices, step.price);
+    let upper = step_bound(on, step.width);
+    least_of(net, upper)
+}
+
+fn steps_least(prices: Nets, on: bool, steps: OfferSteps) -> Grains
+    requires { ⌜ SmallNets prices × SmallSteps steps ⌝ }
+    ensures { λ g. ⌜ Figure g (sumOf (λ j. stepLeast prices on (offerStep steps j)) (upto 10)) mostService ⌝ }
+{
+    let mut sum = Grains(0);
+    let mut j: usize = 0;
+    while j < 10 {
+        let step = steps.of[j];
+        let least = step_least(prices, on, step);
+        sum = plus(sum, least);
+        j += 1;
+    }
+    sum
+}
+
+// ---- its reserves
+
+// Their upper bounds.
+pub struct ReserveBounds {
+    pub regulation: Kw,
+    pub contingency: Kw,
+    pub on_line_short_term: Kw,
+    pub off_line_short_term: Kw,
+}
+
+pub fn reserve_bounds(b: &[u8], resource: Resource) -> ReserveBounds
+    requires { ⌜ (HeadIn (now b) × Valid (now b)) × Ranged resource ⌝ }
+    ensures { λ u. ⌜ ((s : Figures) → resource ≡ recordOf s → u ≡ reserveBoundsOf (caseOf (now (b .entry))) s) ⌝ }
+{
+    let regulating = records::regulating_terms(b);
+    let contingency = records::contingency_terms(b);
+    let short_term = records::short_term_terms(b);
+    ReserveBounds {
+        regulation: limits::regulation_bound(regulating, resource),
+        contingency: limits::contingency_bound(contingency, resource),
+        on_line_short_term: limits::on_line_short_term_bound(short_term, resource),
+        off_line_short_term: limits::off_line_short_term_bound(resource),
+    }
+}
+
+fn reserves_least(prices: Nets, uppers: ReserveBounds) -> Grains
+    requires { ⌜ SmallNets prices × SmallBounds uppers ⌝ }
+    ensures { λ g. ⌜ Figure g (reservesLeast prices uppers) (4 * mostService) ⌝ }
+{
+    let regulation = least_of(prices.regulation, uppers.regulation);
+    let contingency = least_of(prices.contingency, uppers.contingency);
+    let on_line = least_of(prices.on_line_short_term, uppers.on_line_short_term);
+    let off_line = least_of(prices.off_line_short_term, uppers.off_line_short_term);
+    let last = plus(on_line, off_line);
+    let rest = plus(contingency, last);
+    plus(regulation, rest)
+}
+
+// Of resource i: its steps and its reserves.
+fn least_terms(b: &[u8], q: &[u8], r: usize, z: usize, f: usize, i: usize) -> Grains
+    requires { ⌜ PricesStand (now b) (now q) r z f × (i < r) ⌝ }
+    ensures { λ g. ⌜ Figure g (leastTerms (now (b .entry)) (now (q .entry)) i) mostLeastTerms ⌝ }
+{
+    let prices = nets::nets_at(b, q, r, z, f, i);
+    let resource = records::resource_at(b, z, i);
+    let on = limits::on_line(resource);
+    let uppers = reserve_bounds(b, resource);
+    let steps = steps_least(prices, on, resource.steps);
+    let reserves = reserves_least(prices, uppers);
+    plus(steps, reserves)
+}
+
+fn least_sum(b: &[u8], q: &[u8], r: usize, z: usize, f: usize) -> Grains
+    requires { ⌜ PricesStand (now b) (now q) r z f ⌝ }
+    ensures { λ g. ⌜ Figure g (sumOf (leastTerms (now (b .entry)) (now (q .entry))) (upto r)) (64 * mostLeastTerms) ⌝ }
+{
+    let mut sum = Grains(0);
+    let mut i: usize = 0;
+    while i < r {
+        let terms = least_terms(b, q, r, z, f, i);
+        sum = plus(sum, terms);
+        i += 1;
+    }
+    sum
+}
+
+// ---- the steps of the demand curves
+
+// Of a curve whose market row has the price.
+fn curve_step_least(price: Millicents, step: Step) -> Grains
+    requires { ⌜ (natAbs (price .0) ≤ mostPrice) × SmallStep step ⌝ }
+    ensures { λ g. ⌜ Figure g (curveStepLeast price step) mostCurveStep ⌝ }
+{
+    let net = nets::curve_net(price, step.price);
+    least_of(net, step.width)
+}
+
+fn curve_least(price: Millicents, curve: CurveSteps) -> Grains
+    requires { ⌜ (natAbs (price .0) ≤ mostPrice) × RangedCurve curve ⌝ }
+    ensures { λ g. ⌜ Figure g (sumOf (λ j. curveStepLeast price (curveStep curve j)) (upto 4)) (4 * mostCurveStep) ⌝ }
+{
+    let mut sum = Grains(0);
+    let mut j: usize = 0;
+    while j < 4 {
+        let step = curve.of[j];
+        let least = curve_step_least(price, step);
+        sum = plus(sum, least);
+        j += 1;
+    }
+    sum
+}
+
+fn curves_least(b: &[u8], q: &[u8], r: usize, z: usize, f: usize) -> Grains
+    requires { ⌜ PricesStand (now b) (now q) r z f ⌝ }
+    ensures { λ g. ⌜ Figure g (sumOf (pricedTerm (now (b .entry)) (now (q .entry))) (across curvePriced curves)) (16 * mostCurveStep) ⌝ }
+{
+    let prices = entries::market_prices(q, r, z, f);
+    let operating = curve_least(prices.operating, records::curve_at(b, 0));
+    let both = curve_least(prices.regulating_plus_spinning, records::curve_at(b, 1));
+    let regulating = curve_least(prices.regulating, records::curve_at(b, 2));
+    let short_term = curve_least(prices.short_term, records::curve_at(b, 3));
+    let last = plus(regulating, short_term);
+    let rest = plus(both, last);
+    plus(operating, rest)
+}
+
+// Over all that is priced.
+fn priced_terms(b: &[u8], q: &[u8], r: usize, z: usize, f: usize) -> Grains
+    requires { ⌜ PricesStand (now b) (now q) r z f ⌝ }
+    ensures { λ g. ⌜ Figure g (sumOf (pricedTerm (now (b .entry)) (now (q .entry))) (priced (caseOf (now (b .entry))))) mostPricedTerms ⌝ }
+{
+    let resources = least_sum(b, q, r, z, f);
+    let cleared = curves_least(b, q, r, z, f);
+    plus(resources, cleared)
+}
+
+// ---- the bound
+
+pub fn bound(b: &[u8], q: &[u8], r: usize, z: usize, f: usize) -> Grains
+    requires { ⌜ Standing (now b) (now q) r z f ⌝ }
+    ensures { λ g. ⌜ g ≡ grains (bound (caseOf (now (b .entry))) (certificateOf (now (q .entry)) .price)) ⌝ }
+{
+    let rows = row_terms(b, q, r, z, f);
+    let least = priced_terms(b, q, r, z, f);
+    plus(rows, least)
+}

@@ -1,0 +1,48 @@
+-- Records of a valid case and a certificate: that their bounds can be computed, and comparisons of them by figures.
+use mathlib.Core.Path.{_≡_, refl, _∙_, ap}
+use mathlib.Core.Bool.{Bool}
+use mathlib.Core.List.{List}
+use Prim.Native.Nat.{ℕ, zero, suc, _<_}
+use native.Mathlib.Omega.{arith}
+use lib.Signed.{leZ}
+use Rattle.market.specs.declared.Kw.{Kw}
+use Rattle.market.specs.declared.CurveSteps.{CurveSteps}
+use Rattle.market.specs.declared.Resource.{Resource}
+use Rattle.market.specs.Case.{Curve, operating, regulatingPlusSpinning, regulating, shortTerm, curveNumber, regulatingReserve, contingencyReserve, shortTermReserve}
+use Rattle.market.specs.CaseFile.{caseOf, resourceAt, resourcePlace}
+use Rattle.market.specs.Records.{recordOf, curveStepsOf}
+use Rattle.market.specs.Outcome.{Valid}
+use Rattle.market.proofs.Ranges.{valid-ranges}
+use Rattle.records.specs.Ranged.{Ranged, RangedCurve}
+use Rattle.records.proofs.Places.{resource-is, resources-is}
+use Rattle.records.proofs.Ranged.{curve-ranged, valid-resource, valid-terms}
+use Rattle.certificates.specs.declared.Terms.{Terms}
+use Rattle.certificates.specs.Filing.{Filing}
+use Rattle.certificates.specs.Bounding.{termsOf, TermsRanged}
+
+-- ---- curves by their number
+pub curve-at-ranged : (b : List ℕ) → Valid b → (k : ℕ) → k < 4 → (o : CurveSteps) → ((c : Curve) → curveNumber c ≡ k → o ≡ curveStepsOf (caseOf b) c) → RangedCurve o
+curve-at-ranged b v zero h o e = rw (e operating refl) (curve-ranged (valid-ranges b v) operating)
+curve-at-ranged b v (suc zero) h o e = rw (e regulatingPlusSpinning refl) (curve-ranged (valid-ranges b v) regulatingPlusSpinning)
+curve-at-ranged b v (suc (suc zero)) h o e = rw (e regulating refl) (curve-ranged (valid-ranges b v) regulating)
+curve-at-ranged b v (suc (suc (suc zero))) h o e = rw (e shortTerm refl) (curve-ranged (valid-ranges b v) shortTerm)
+curve-at-ranged b v (suc (suc (suc (suc k)))) h o e = absurd (omega arith)
+
+-- ---- the terms of a valid case, and its resources
+terms-of-ranged : (b : List ℕ) → Valid b → TermsRanged (termsOf (caseOf b))
+unfolding termsOf
+terms-of-ranged b v = record { regulating = valid-terms b v regulatingReserve; contingency = valid-terms b v contingencyReserve; short-term = valid-terms b v shortTermReserve }
+
+pub terms-ranged : (b : List ℕ) {t : Terms} → Valid b → t ≡ termsOf (caseOf b) → TermsRanged t
+terms-ranged b v e = rw e (terms-of-ranged b v)
+
+module _ {b q : List ℕ} {r z f : ℕ} (h : Filing b q r z f) where
+  pub record-is : {s : Resource} (i : ℕ) → s ≡ recordOf (resourceAt b (resourcePlace z i)) → s ≡ recordOf (caseOf b .resource i)
+  record-is i e = e ∙ ap recordOf (resource-is (h .case-bytes) i)
+
+  pub resource-ranged : {s : Resource} (i : ℕ) → i < r → s ≡ recordOf (resourceAt b (resourcePlace z i)) → Ranged s
+  resource-ranged i l e = rw (record-is i e) (valid-resource b (h .valid) i (omega (arith, resources-is (h .case-bytes))))
+
+-- ---- a figure of one record against the same figure of another
+pub compared : {A : Type 0} (p : A → Kw) {x y x′ y′ : A} {t : Bool} → t ≡ leZ (p x .0) (p y .0) → x ≡ x′ → y ≡ y′ → t ≡ leZ (p x′ .0) (p y′ .0)
+compared p t e f = t ∙ (λ i. leZ (p (e i) .0) (p (f i) .0))

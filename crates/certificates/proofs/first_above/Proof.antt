@@ -1,0 +1,37 @@
+-- `certificates::first_above` meets its contract. Assumes nothing.
+use mathlib.Core.Path.{_≡_}
+use mathlib.Core.List.{map}
+use native.Mathlib.Omega.{arith}
+use borrow.Author.Needs.{needs}
+use Rattle.market.specs.declared.Refusal.the-variants.{AboveBound}
+use Rattle.market.specs.CaseFile.{caseOf}
+use Rattle.market.specs.Case.{curves}
+use Rattle.market.specs.UpperBounds.{Cleared, upperBound}
+use Rattle.market.specs.Certificate.{certificateOf}
+use Rattle.market.specs.Refusals.{firstFailing, foundAt}
+use Rattle.market.specs.Outcome.{withinBound}
+use Rattle.records.proofs.Places.{resources-is}
+use Rattle.certificates.proofs.Above.{among-cleared, among-provided}
+use Rattle.certificates.proofs.first_above.Statement.{statement}
+use Rattle.certificates.proofs.first_above.Tie as tie
+
+-- what is found among the cleared quantities
+found : (c : tie.After-cleared-above) → foundAt AboveBound (c .cleared-above .result) ≡ firstFailing (withinBound (caseOf (c .before .before .before .before .before .args .b .now)) (certificateOf (c .before .before .before .before .before .args .q .now))) AboveBound 1 (map Cleared curves)
+found c = c .cleared-above .ensures (certificateOf (c .before .before .before .before .before .args .q .now) .amount) (upperBound (caseOf (c .before .before .before .before .before .args .b .now))) (c .before .before .cleared .ensures) (c .before .curve-bounds .ensures)
+
+returns : tie.Need-returns
+returns c = among-cleared (withinBound (caseOf (c .before .before .before .before .before .before .args .b .now)) (certificateOf (c .before .before .before .before .before .before .args .q .now))) (caseOf (c .before .before .before .before .before .before .args .b .now)) (c .before .cleared-above .result) (found (c .before)) (omega arith)
+
+returns-2 : tie.Need-returns-2
+returns-2 c = among-provided (withinBound (caseOf (c .before .before .before .before .before .before .before .args .b .now)) (certificateOf (c .before .before .before .before .before .before .before .args .q .now))) (caseOf (c .before .before .before .before .before .before .before .args .b .now)) _ (c .before .before .cleared-above .result) (c .first-provided-above .result) (resources-is (c .before .before .before .before .before .before .before .pre .case-bytes)) (found (c .before .before)) (omega arith) (c .first-provided-above .ensures)
+
+pub first-above-spec : {M : Type 1} → statement M
+first-above-spec =
+    tie.close
+    (tie.spec
+    (λ c κs. search needs)
+    (λ c κs. search needs)
+    (λ c κs. search needs)
+    returns
+    (λ c κs. search needs)
+    returns-2)

@@ -1,0 +1,3 @@
+pub mod Grounds13
+pub mod Filing
+pub mod Bounding

@@ -1,0 +1,208 @@
+// The certificate check as far as the upper bounds: grounds 1 to 13 of a case and a certificate, each tested only where no
+// earlier one holds anywhere in the files (01, 'How each operation refuses').
+use cases::Stage;
+use market::Amounts;
+use market::CurveAmounts;
+use market::Kw;
+use market::Refusal;
+use market::ReserveTerms;
+use market::Resource;
+ghost use mathlib.Core.Path.{_≡_};
+ghost use mathlib.Core.List.{map};
+ghost use Prim.Native.Nat.{ℕ, _+_, _<_, _≤_};
+ghost use lib.Dec.{leb};
+ghost use Rattle.arith.specs.Sums.{upto, across};
+ghost use Rattle.market.specs.declared.Refusal.the-variants.{AboveBound};
+ghost use Rattle.market.specs.Case.{Case, Curve, curves, curveNumber};
+ghost use Rattle.market.specs.CaseFile.{caseOf};
+ghost use Rattle.market.specs.UpperBounds.{Cleared, Provided, services, Schedule, upperBound};
+ghost use Rattle.market.specs.Certificate.{certificateOf};
+ghost use Rattle.market.specs.Records.{power, countsIn, recordOf, amountsOf, clearedOf};
+ghost use Rattle.market.specs.Refusals.{firstOf, firstFailing, foundAt};
+ghost use Rattle.market.specs.Outcome.{Valid, withinBound};
+ghost use Rattle.cases.specs.Stages.{stageOf};
+ghost use Rattle.records.specs.Places.{HeadIn, CurveIn};
+ghost use Rattle.records.specs.Ranged.{Ranged};
+ghost use Rattle.certificates.specs.Grounds13.{priceGround, boundGround, groundsTo11, groundsTo13};
+ghost use Rattle.certificates.specs.Filing.{Filing, Filed, Advanced};
+ghost use Rattle.certificates.specs.Bounding.{termsOf, TermsRanged};
+
+// What the case says of each reserve.
+pub struct Terms {
+    pub regulating: ReserveTerms,
+    pub contingency: ReserveTerms,
+    pub short_term: ReserveTerms,
+}
+
+// ---- upper bounds
+fn terms_in(b: &[u8]) -> Terms
+    requires { ⌜ HeadIn (now b) ⌝ }
+    ensures { λ t. ⌜ t ≡ termsOf (caseOf (now (b .entry))) ⌝ }
+{
+    Terms {
+        regulating: records::regulating_terms(b),
+        contingency: records::contingency_terms(b),
+        short_term: records::short_term_terms(b),
+    }
+}
+
+// Of the cleared quantity of the curve of number k.
+fn curve_bound_at(b: &[u8], k: usize) -> Kw
+    requires { ⌜ Valid (now b) × CurveIn (now b) k ⌝ }
+    ensures { λ m. ⌜ ((c : Curve) → curveNumber c ≡ k → m ≡ power (upperBound (caseOf (now (b .entry))) (Cleared c))) ⌝ }
+{
+    limits::curve_bound(records::curve_at(b, k))
+}
+
+fn curve_bounds(b: &[u8]) -> CurveAmounts
+    requires { ⌜ Valid (now b) × HeadIn (now b) ⌝ }
+    ensures { λ m. ⌜ m ≡ clearedOf (upperBound (caseOf (now (b .entry)))) ⌝ }
+{
+    CurveAmounts {
+        operating: curve_bound_at(b, 0),
+        regulating_plus_spinning: curve_bound_at(b, 1),
+        regulating: curve_bound_at(b, 2),
+        short_term: curve_bound_at(b, 3),
+    }
+}
+
+// Of a resource's five quantities.
+fn service_bounds(r: Resource, terms: Terms) -> Amounts
+    requires { ⌜ Ranged r × TermsRanged terms ⌝ }
+    ensures { λ m. ⌜ ((c : Case) (i : ℕ) → terms ≡ termsOf c → r ≡ recordOf (c .resource i) → m ≡ amountsOf (upperBound c) i) ⌝ }
+{
+    Amounts {
+        energy: limits::energy_bound(r),
+        regulation: limits::regulation_bound(terms.regulating, r),
+        contingency: limits::contingency_bound(terms.contingency, r),
+        on_line_short_term: limits::on_line_short_term_bound(terms.short_term, r),
+        off_line_short_term: limits::off_line_short_term_bound(r),
+    }
+}
+
+// ---- 13: the place of the first quantity above its bound, 0 if there is none
+fn cleared_above(given: CurveAmounts, most: CurveAmounts) -> u32
+    ensures { λ n. ⌜ ((x u : Schedule) → given ≡ clearedOf x → most ≡ clearedOf u → foundAt AboveBound n ≡ firstFailing (λ a. leb (x a) (u a)) AboveBound 1 (map Cleared curves)) ⌝ }
+{
+    if !units::at_least(most.operating, given.operating) {
+        return 1;
+    }
+    if !units::at_least(
+        most.regulating_plus_spinning,
+        given.regulating_plus_spinning,
+    ) {
+        return 2;
+    }
+    if !units::at_least(most.regulating, given.regulating) {
+        return 3;
+    }
+    if !units::at_least(most.short_term, given.short_term) {
+        return 4;
+    }
+    0
+}
+
+// Among a resource's five, the first of them at this place.
+fn provided_above(given: Amounts, most: Amounts, place: u32) -> u32
+    requires { ⌜ (1 ≤ place) × (place ≤ 1000) ⌝ }
+    ensures { λ n. ⌜ ((x u : Schedule) (i : ℕ) → given ≡ amountsOf x i → most ≡ amountsOf u i → foundAt AboveBound n ≡ firstFailing (λ a. leb (x a) (u a)) AboveBound place (map (Provided i) services)) ⌝ }
+{
+    if !units::at_least(most.energy, given.energy) {
+        return place;
+    }
+    if !units::at_least(most.regulation, given.regulation) {
+        return place + 1;
+    }
+    if !units::at_least(most.contingency, given.contingency) {
+        return place + 2;
+    }
+    if !units::at_least(most.on_line_short_term, given.on_line_short_term) {
+        return place + 3;
+    }
+    if !units::at_least(most.off_line_short_term, given.off_line_short_term) {
+        return place + 4;
+    }
+    0
+}
+
+fn first_provided_above(b: &[u8], q: &[u8], r: usize, z: usize, f: usize) -> u32
+    requires { ⌜ Filing (now b) (now q) r z f ⌝ }
+    ensures { λ n. ⌜ foundAt AboveBound n ≡ firstFailing (withinBound (caseOf (now (b .entry))) (certificateOf (now (q .entry)))) AboveBound 5 (across (λ i. map (Provided i) services) (upto r)) ⌝ }
+{
+    let terms = terms_in(b);
+    let mut place: u32 = 5;
+    let mut i: usize = 0;
+    while i < r {
+        let most = service_bounds(records::resource_at(b, z, i), terms);
+        let given = entries::amounts_at(q, r, z, f, i);
+        let found = provided_above(given, most, place);
+        if found > 0 {
+            return found;
+        }
+        place += 5;
+        i += 1;
+    }
+    0
+}
+
+fn first_above(b: &[u8], q: &[u8], r: usize, z: usize, f: usize) -> u32
+    requires { ⌜ Filing (now b) (now q) r z f ⌝ }
+    ensures { λ n. ⌜ foundAt AboveBound n ≡ boundGround (caseOf (now (b .entry))) (certificateOf (now (q .entry))) ⌝ }
+{
+    let given = entries::cleared(q, r, z, f);
+    let most = curve_bounds(b);
+    let found = cleared_above(given, most);
+    if found > 0 {
+        return found;
+    }
+    first_provided_above(b, q, r, z, f)
+}
+
+// ---- the stages
+// 1 to 11.
+fn form_stage(b: &[u8], q: &[u8]) -> Stage
+    ensures { λ r. ⌜ (r ≡ stageOf (countsIn (caseOf (now (b .entry)))) (firstOf (groundsTo11 (now (b .entry)) (now (q .entry))))) × Filed (now (b .entry)) (now (q .entry)) r ⌝ }
+{
+    let earlier = cases::case_stage(b);
+    let Stage::Passed(n) = earlier else {
+        return earlier;
+    };
+    filings::form(q, n)
+}
+
+// 12.
+fn prices_stage(b: &[u8], q: &[u8], earlier: Stage) -> Stage
+    requires { ⌜ Filed (now b) (now q) earlier ⌝ }
+    ensures { λ r. ⌜ Advanced (now (b .entry)) (now (q .entry)) earlier (priceGround (caseOf (now (b .entry))) (certificateOf (now (q .entry)))) r ⌝ }
+{
+    let Stage::Passed(n) = earlier else {
+        return earlier;
+    };
+    if !filings::prices_right(q, n) {
+        return Stage::Refused(Refusal::PriceRange);
+    }
+    Stage::Passed(n)
+}
+
+// 13.
+fn quantities_stage(b: &[u8], q: &[u8], earlier: Stage) -> Stage
+    requires { ⌜ Filed (now b) (now q) earlier ⌝ }
+    ensures { λ r. ⌜ Advanced (now (b .entry)) (now (q .entry)) earlier (boundGround (caseOf (now (b .entry))) (certificateOf (now (q .entry)))) r ⌝ }
+{
+    let Stage::Passed(n) = earlier else {
+        return earlier;
+    };
+    let place = first_above(b, q, n.resources, n.zones, n.flowgates);
+    if place > 0 {
+        return Stage::Refused(Refusal::AboveBound(place));
+    }
+    Stage::Passed(n)
+}
+
+// 1 to 13: the counts of a case and a certificate that have passed them, or the first ground that holds.
+pub fn bounds_stage(b: &[u8], q: &[u8]) -> Stage
+    ensures { λ r. ⌜ r ≡ stageOf (countsIn (caseOf (now (b .entry)))) (firstOf (groundsTo13 (now (b .entry)) (now (q .entry)))) ⌝ }
+{
+    let form = form_stage(b, q);
+    quantities_stage(b, q, prices_stage(b, q, form))
+}

@@ -1,0 +1,14 @@
+-- `filings::size_right` meets its contract. Assumes nothing.
+use borrow.Author.Needs.{needs}
+use Rattle.filings.specs.Form.{sizeIs}
+use Rattle.filings.proofs.size_right.Statement.{statement}
+use Rattle.filings.proofs.size_right.Tie as tie
+
+returns : tie.Need-returns
+unfolding sizeIs
+returns c = search needs
+
+pub size-right-spec : {M : Type 1} → statement M
+size-right-spec =
+    tie.close
+    (tie.spec (λ c. search needs) (λ c. search needs) (λ c. search needs) (λ c. search needs) (λ c. search needs) (λ c. search needs) returns)

@@ -1,0 +1,125 @@
+// A certificate's file for a case: its form, grounds 8 to 11, and the range of every price, ground 12
+// (01, 'How each operation refuses'). Both hold for every case with the counts that are passed.
+use cases::Stage;
+use market::Counts;
+use market::Refusal;
+ghost use mathlib.Core.Path.{_≡_};
+ghost use Prim.Native.Nat.{_+_, _*_, _<_, _≤_};
+ghost use Rattle.arith.specs.Sums.{upto, all};
+ghost use Rattle.market.specs.Case.{Case};
+ghost use Rattle.market.specs.CaseCheck.{lengthRight};
+ghost use Rattle.market.specs.Certificate.{certificateOf};
+ghost use Rattle.market.specs.Records.{countsIn};
+ghost use Rattle.market.specs.Refusals.{firstOf};
+ghost use Rattle.market.specs.Rows.{rows};
+ghost use Rattle.market.specs.Outcome.{priceRight};
+ghost use Rattle.wire.specs.Within.{Within};
+ghost use Rattle.cases.specs.Stages.{stageOf};
+ghost use Rattle.entries.specs.CertificateBytes.{CertificateBytes};
+ghost use Rattle.filings.specs.Form.{formGrounds, countsAre, sizeIs};
+ghost use Rattle.filings.specs.PricePlaces.{zonePriced, limitsPriced};
+
+// ---- 8 to 11: the file's form
+fn length_right(q: &[u8]) -> bool
+    ensures { λ t. ⌜ t ≡ lengthRight 44 (now (q .entry)) ⌝ }
+{
+    if q.len() < 44 {
+        return false;
+    }
+    cases::wide(wire::u32_at(q, 0)) + 4 == q.len() as u64
+}
+
+fn same_counts(q: &[u8], n: Counts) -> bool
+    requires { ⌜ Within (now q) 0 44 ⌝ }
+    ensures { λ t. ⌜ t ≡ countsAre (now (q .entry)) n ⌝ }
+{
+    if cases::count_at(q, 5) != n.resources {
+        return false;
+    }
+    if cases::count_at(q, 6) != n.zones {
+        return false;
+    }
+    cases::count_at(q, 7) == n.flowgates
+}
+
+fn size_right(q: &[u8], n: Counts) -> bool
+    requires { ⌜ (n .resources ≤ 64) × (n .zones ≤ 8) × (n .flowgates ≤ 16) ⌝ }
+    ensures { λ t. ⌜ t ≡ sizeIs (now (q .entry)) n ⌝ }
+{
+    let resources = n.resources;
+    let zones = n.zones;
+    let flowgates = n.flowgates;
+    q.len() == 44 + zones * 16 + flowgates * 4 + resources * 40
+}
+
+pub fn form(q: &[u8], n: Counts) -> Stage
+    requires { ⌜ (n .resources ≤ 64) × (n .zones ≤ 8) × (n .flowgates ≤ 16) ⌝ }
+    ensures { λ r. ⌜ ((c : Case) → n ≡ countsIn c → r ≡ stageOf n (firstOf (formGrounds c (now (q .entry))))) ⌝ }
+{
+    if !length_right(q) {
+        return Stage::Refused(Refusal::CertificateLength);
+    }
+    if !cases::version_right(q) {
+        return Stage::Refused(Refusal::CertificateVersion);
+    }
+    if !same_counts(q, n) {
+        return Stage::Refused(Refusal::CountsDiffer);
+    }
+    if !size_right(q, n) {
+        return Stage::Refused(Refusal::CertificateSize);
+    }
+    Stage::Passed(n)
+}
+
+// ---- 12: every price within its range
+fn zones_priced(q: &[u8], zones: usize) -> bool
+    requires { ⌜ Within (now q) 44 (zones * 16) ⌝ }
+    ensures { λ t. ⌜ t ≡ all (zonePriced (now (q .entry))) (upto zones) ⌝ }
+{
+    let mut zone: usize = 0;
+    while zone < zones {
+        if !ranges::all_at_most(q, 44 + zone * 16, 4, 400000000) {
+            return false;
+        }
+        zone += 1;
+    }
+    true
+}
+
+fn limits_priced(q: &[u8], resources: usize, zones: usize, flowgates: usize) -> bool
+    requires { ⌜ CertificateBytes (now q) resources zones flowgates ⌝ }
+    ensures { λ t. ⌜ t ≡ all (limitsPriced (now (q .entry)) zones flowgates) (upto resources) ⌝ }
+{
+    let mut i: usize = 0;
+    while i < resources {
+        let at = 44 + zones * 16 + flowgates * 4 + i * 40;
+        if !ranges::all_at_most(q, at + 20, 5, 400000000) {
+            return false;
+        }
+        i += 1;
+    }
+    true
+}
+
+pub fn prices_right(q: &[u8], n: Counts) -> bool
+    requires { ⌜ CertificateBytes (now q) (n .resources) (n .zones) (n .flowgates) ⌝ }
+    ensures { λ t. ⌜ ((c : Case) → n ≡ countsIn c → t ≡ all (priceRight (certificateOf (now (q .entry)))) (rows c)) ⌝ }
+{
+    let resources = n.resources;
+    let zones = n.zones;
+    let flowgates = n.flowgates;
+    // row 1, then the market's, the zones', the flowgates' and the resources' rows
+    if !ranges::word_either_way(q, 24, 400000000) {
+        return false;
+    }
+    if !ranges::all_at_most(q, 28, 4, 400000000) {
+        return false;
+    }
+    if !zones_priced(q, zones) {
+        return false;
+    }
+    if !ranges::all_at_most(q, 44 + zones * 16, flowgates, 400000) {
+        return false;
+    }
+    limits_priced(q, resources, zones, flowgates)
+}

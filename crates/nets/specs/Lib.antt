@@ -1,0 +1,2 @@
+pub mod NetPrices
+pub mod Sizes

@@ -1,0 +1,37 @@
+use Rattle.outcomes.proofs.Passing.{rows-not-reached, row-broken, rows-met}
+use Rattle.certificates.proofs.Passing.{passed-standing}
+use Rattle.certificates.specs.Grounds13.{groundsTo13}
+use Rattle.cases.specs.Stages.{stageOf}
+use Rattle.cases.specs.declared.Stage.the-variants.{Passed, Refused}
+use Rattle.market.specs.Refusals.{firstOf}
+use Rattle.market.specs.Records.{countsIn}
+use Rattle.market.specs.CaseFile.{caseOf}
+use native.Mathlib.Omega.{arith}
+use mathlib.Core.Path.{_≡_, _∙_}
+use borrow.Author.Needs.{needs}
+use Rattle.outcomes.proofs.rows_stage.Statement.{statement}
+use Rattle.outcomes.proofs.rows_stage.Tie as tie
+
+returns : tie.Need-returns
+returns c = let s = c .before .before .before .before .before in let h : stageOf (countsIn (caseOf (s .args .b .now))) (firstOf (groundsTo13 (s .args .b .now) (s .args .q .now))) ≡ Refused (c .enum-told .given .0 .0) = cc in let e : c .before .before .bounds-stage .result ≡ Refused (c .enum-told .given .0 .0) = cc in e ∙ rows-not-reached (s .args .b .now) (s .args .q .now) _ h
+
+first-broken-requires : tie.Need-first-broken-requires
+first-broken-requires c κs = let s = c .before .before .before .before .before .before in let h : stageOf (countsIn (caseOf (s .args .b .now))) (firstOf (groundsTo13 (s .args .b .now) (s .args .q .now))) ≡ Passed (c .before .earlier .given .0 .0) = cc in passed-standing (s .args .b .now) (s .args .q .now) _ h
+
+returns-2 : tie.Need-returns-2
+returns-2 c = let s = c .before .before .before .before .before .before .before .before in let h : stageOf (countsIn (caseOf (s .args .b .now))) (firstOf (groundsTo13 (s .args .b .now) (s .args .q .now))) ≡ Passed (c .before .before .before .earlier .given .0 .0) = cc in row-broken (s .args .b .now) (s .args .q .now) _ (c .before .first-broken .result) h (omega arith) (c .before .first-broken .ensures)
+
+returns-3 : tie.Need-returns-3
+returns-3 c = let s = c .before .before .before .before .before .before .before .before in let h : stageOf (countsIn (caseOf (s .args .b .now))) (firstOf (groundsTo13 (s .args .b .now) (s .args .q .now))) ≡ Passed (c .before .before .before .earlier .given .0 .0) = cc in rows-met (s .args .b .now) (s .args .q .now) _ (c .before .first-broken .result) h (omega arith) (c .before .first-broken .ensures)
+
+pub rows-stage-spec : {M : Type 1} → statement M
+rows-stage-spec =
+    tie.close
+    (tie.spec
+    (λ c κs. search needs)
+    (λ c. search needs)
+    (λ c. search needs)
+    returns
+    first-broken-requires
+    returns-2
+    returns-3)

@@ -1,0 +1,28 @@
+use Rattle.outcomes.proofs.Passing.{gap-room}
+use Rattle.market.specs.Outcome.{valuation}
+use Rattle.market.specs.Records.{grains}
+use Rattle.market.specs.Bound.{bound}
+use Rattle.market.specs.Cost.{cost}
+use Rattle.market.specs.Certificate.{certificateOf}
+use Rattle.market.specs.CaseFile.{caseOf}
+use Rattle.market.specs.declared.Outcome.the-variants.{Accepted}
+use lib.IntN.{_-ℤ_}
+use mathlib.Core.Path.{_≡_, _∙_, ap}
+use borrow.Author.Needs.{needs}
+use Rattle.outcomes.proofs.valued.Statement.{statement}
+use Rattle.outcomes.proofs.valued.Tie as tie
+
+grains-difference-requires : tie.Need-grains-difference-requires
+grains-difference-requires c κs = let s = c .before .before .before .before in rw (c .before .cost .ensures, c .bound .ensures) (gap-room (s .args .b .now) (s .args .q .now) (s .pre))
+
+gap-is : (c : tie.After-grains-difference) →
+    let s = c .before .before .before .before .before in
+    c .grains-difference .result ≡ grains (cost (caseOf (s .args .b .now)) (certificateOf (s .args .q .now) .amount) -ℤ bound (caseOf (s .args .b .now)) (certificateOf (s .args .q .now) .price))
+gap-is c = c .grains-difference .ensures ∙ rw (c .before .before .cost .ensures, c .before .bound .ensures)
+
+returns : tie.Need-returns
+unfolding valuation
+returns c = ap Accepted (λ i. record { cost = (c .before .before .cost .ensures) i; bound = (c .before .bound .ensures) i; gap = (gap-is c) i })
+
+pub valued-spec : {M : Type 1} → statement M
+valued-spec = tie.close (tie.spec (λ c κs. search needs) (λ c κs. search needs) grains-difference-requires returns)

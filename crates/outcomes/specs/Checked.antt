@@ -1,0 +1,17 @@
+-- What the certificate check answers, and what an accepted certificate shows: demand 3, from the bytes on.
+use mathlib.Core.List.{List}
+use mathlib.Core.Path.{_≡_}
+use Prim.Native.Nat.{ℕ}
+use lib.IntN.{ℤ}
+use Rattle.market.specs.declared.Outcome.{Outcome}
+use Rattle.market.specs.declared.Outcome.the-variants.{Accepted}
+use Rattle.market.specs.Outcome.{outcome, valued}
+use Rattle.market.specs.Promise.{Promise}
+
+-- of case bytes b, certificate bytes q and the answer r
+pub record Checked (b q : List ℕ) (r : Outcome) : Type 0 where
+  -- the answer is the one that 01 defines
+  pub answer : r ≡ outcome b q
+  -- accepted: the case is valid, every quantity is within its bound, every row is met, no other schedule within those bounds
+  -- and rows costs less than the cost less the gap, and the gap is the sum of the charges, none below zero
+  pub promise : (paid least gap : ℤ) → r ≡ Accepted (valued paid least gap) → Promise b q paid least gap

@@ -1,0 +1,73 @@
+// The certificate check, grounds 1 to 14, and the calls that write into a lent buffer once it has passed
+// (01, 'How each operation refuses').
+use cases::Stage;
+use market::Counts;
+use market::Delivery;
+use market::Outcome;
+use market::Refusal;
+use market::Valuation;
+ghost use mathlib.Core.Path.{_≡_};
+ghost use lib.ListN.{length};
+ghost use Rattle.market.specs.declared.Outcome.the-variants.{Accepted};
+ghost use Rattle.market.specs.CaseFile.{caseOf};
+ghost use Rattle.market.specs.Certificate.{certificateOf};
+ghost use Rattle.market.specs.Records.{countsIn};
+ghost use Rattle.market.specs.Refusals.{firstOf};
+ghost use Rattle.market.specs.Outcome.{grounds, valuation, priceAnswer, priceBuffer};
+ghost use Rattle.cases.specs.Stages.{stageOf};
+ghost use Rattle.prices.specs.Standing.{Standing};
+ghost use Rattle.outcomes.specs.Checked.{Checked};
+
+// 1 to 14: the counts of a case and a certificate that have passed them, or the first ground that holds.
+fn rows_stage(b: &[u8], q: &[u8]) -> Stage
+    ensures { λ r. ⌜ r ≡ stageOf (countsIn (caseOf (now (b .entry)))) (firstOf (grounds (now (b .entry)) (now (q .entry)))) ⌝ }
+{
+    let earlier = certificates::bounds_stage(b, q);
+    let Stage::Passed(n) = earlier else {
+        return earlier;
+    };
+    let row = rows::first_broken(b, q, n.resources, n.zones, n.flowgates);
+    if row > 0 {
+        return Stage::Refused(Refusal::RowBroken(row));
+    }
+    Stage::Passed(n)
+}
+
+// Cost, bound and gap of a certificate that stands.
+fn valued(b: &[u8], q: &[u8], n: Counts) -> Outcome
+    requires { ⌜ Standing (now b) (now q) (n .resources) (n .zones) (n .flowgates) ⌝ }
+    ensures { λ r. ⌜ r ≡ Accepted (valuation (caseOf (now (b .entry))) (certificateOf (now (q .entry)))) ⌝ }
+{
+    let cost = costs::cost(b, q, n.resources, n.zones, n.flowgates);
+    let bound = bounds::bound(b, q, n.resources, n.zones, n.flowgates);
+    let gap = units::grains_difference(cost, bound);
+    Outcome::Accepted(Valuation { cost, bound, gap })
+}
+
+// Checks a certificate against its case.
+pub fn check_certificate(b: &[u8], q: &[u8]) -> Outcome
+    ensures { λ r. ⌜ Checked (now (b .entry)) (now (q .entry)) r ⌝ }
+{
+    let stage = rows_stage(b, q);
+    match stage {
+        Stage::Passed(n) => valued(b, q, n),
+        Stage::Refused(why) => Outcome::Refused(why),
+    }
+}
+
+// Writes the LMPs and zone prices of an accepted certificate.
+pub fn deliver_prices(b: &[u8], q: &[u8], out: &mut [i64]) -> Delivery
+    ensures { λ r. ⌜ (r ≡ priceAnswer (now (b .entry)) (now (q .entry)) (length (now (out .entry)))) × (now (out .exit) ≡ priceBuffer (now (b .entry)) (now (q .entry)) (now (out .entry))) ⌝ }
+{
+    let stage = rows_stage(b, q);
+    match stage {
+        Stage::Passed(n) => {
+            if out.len() < n.resources + 4 * n.zones {
+                return Delivery::Refused(Refusal::BufferShort);
+            }
+            delivery::write_prices(b, q, n.resources, n.zones, n.flowgates, out);
+            Delivery::Delivered
+        }
+        Stage::Refused(why) => Delivery::Refused(why),
+    }
+}

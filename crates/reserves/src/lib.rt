@@ -1,0 +1,137 @@
+// What resources give to the four reserve rows, g+c, g+spin, g and s+o, and the sums of that market-wide and in a zone
+// (01, 'Rows'). Spin is c of an on-line resource with flag 2.
+ghost use mathlib.Core.Path.{_≡_};
+ghost use mathlib.Core.Bool.{cond};
+ghost use Prim.Native.Nat.{_<_, _≤_};
+ghost use lib.IntN.{pos, natAbs};
+ghost use Rattle.arith.specs.Sums.{sumOf, upto};
+ghost use Rattle.market.specs.Case.{Resource as Figures};
+ghost use Rattle.market.specs.CaseFile.{caseOf};
+ghost use Rattle.market.specs.Certificate.{certificateOf};
+ghost use Rattle.market.specs.InWords.{isSpinning, reserveOf, reserveInZone};
+ghost use Rattle.market.specs.Records.{kw, curveAmountsOf, recordOf};
+ghost use Rattle.prices.specs.Standing.{Standing};
+ghost use Rattle.reserves.specs.Given.{SmallAmounts, SumsRoom, givenBy, addedAmounts};
+use market::Amounts;
+use market::CurveAmounts;
+use market::Kw;
+use market::Resource;
+
+// ---- of one resource
+
+// What of its contingency reserve is spinning.
+fn spinning(resource: Resource, contingency: Kw) -> Kw
+    ensures { λ a. ⌜ ((s : Figures) → resource ≡ recordOf s → a ≡ kw (cond (isSpinning s) (contingency .0) (pos 0))) ⌝ }
+{
+    if !limits::on_line(resource) {
+        return Kw(0);
+    }
+    let flags = resource.state.flags;
+    if flags.spinning() {
+        return contingency;
+    }
+    Kw(0)
+}
+
+// What amounts give to each row, `spin` being what is spinning.
+fn given(a: Amounts, spin: Kw) -> CurveAmounts
+    requires { ⌜ SmallAmounts a × (natAbs (spin .0) ≤ 2000000) ⌝ }
+    ensures { λ v. ⌜ v ≡ givenBy a spin ⌝ }
+{
+    let regulation = a.regulation;
+    CurveAmounts {
+        operating: units::kw_sum(regulation, a.contingency),
+        regulating_plus_spinning: units::kw_sum(regulation, spin),
+        regulating: regulation,
+        short_term: units::kw_sum(a.on_line_short_term, a.off_line_short_term),
+    }
+}
+
+// What resource i gives.
+pub fn reserve_given(b: &[u8], q: &[u8], r: usize, z: usize, f: usize, i: usize) -> CurveAmounts
+    requires { ⌜ Standing (now b) (now q) r z f × (i < r) ⌝ }
+    ensures { λ v. ⌜ v ≡ curveAmountsOf (λ k. reserveOf (caseOf (now (b .entry))) (certificateOf (now (q .entry)) .amount) k i) ⌝ }
+{
+    let resource = records::resource_at(b, z, i);
+    let a = entries::amounts_at(q, r, z, f, i);
+    let spin = spinning(resource, a.contingency);
+    given(a, spin)
+}
+
+fn nothing() -> CurveAmounts
+    ensures { λ v. ⌜ v ≡ curveAmountsOf (λ k. pos 0) ⌝ }
+{
+    CurveAmounts {
+        operating: Kw(0),
+        regulating_plus_spinning: Kw(0),
+        regulating: Kw(0),
+        short_term: Kw(0),
+    }
+}
+
+// What resource i gives to the rows of a zone: nothing if it stands in another. Zones count from 0 here, from 1 in the file.
+fn given_in_zone(
+    b: &[u8],
+    q: &[u8],
+    r: usize,
+    z: usize,
+    f: usize,
+    zone: usize,
+    i: usize,
+) -> CurveAmounts
+    requires { ⌜ Standing (now b) (now q) r z f × ((zone < z) × (i < r)) ⌝ }
+    ensures { λ v. ⌜ v ≡ curveAmountsOf (λ k. reserveInZone (caseOf (now (b .entry))) (certificateOf (now (q .entry)) .amount) zone k i) ⌝ }
+{
+    let home = records::resource_zone(b, z, i) as usize;
+    if home != zone + 1 {
+        return nothing();
+    }
+    reserve_given(b, q, r, z, f, i)
+}
+
+// ---- sums
+
+pub fn amounts_sum(a: CurveAmounts, b: CurveAmounts) -> CurveAmounts
+    requires { ⌜ SumsRoom a b ⌝ }
+    ensures { λ v. ⌜ v ≡ addedAmounts a b ⌝ }
+{
+    CurveAmounts {
+        operating: units::kw_sum(a.operating, b.operating),
+        regulating_plus_spinning: units::kw_sum(
+            a.regulating_plus_spinning,
+            b.regulating_plus_spinning,
+        ),
+        regulating: units::kw_sum(a.regulating, b.regulating),
+        short_term: units::kw_sum(a.short_term, b.short_term),
+    }
+}
+
+// What all resources give.
+pub fn market_reserves(b: &[u8], q: &[u8], r: usize, z: usize, f: usize) -> CurveAmounts
+    requires { ⌜ Standing (now b) (now q) r z f ⌝ }
+    ensures { λ v. ⌜ v ≡ curveAmountsOf (λ k. sumOf (reserveOf (caseOf (now (b .entry))) (certificateOf (now (q .entry)) .amount) k) (upto r)) ⌝ }
+{
+    let mut sum = nothing();
+    let mut i: usize = 0;
+    while i < r {
+        let own = reserve_given(b, q, r, z, f, i);
+        sum = amounts_sum(sum, own);
+        i += 1;
+    }
+    sum
+}
+
+// What the resources of a zone give.
+pub fn zone_reserves(b: &[u8], q: &[u8], r: usize, z: usize, f: usize, zone: usize) -> CurveAmounts
+    requires { ⌜ Standing (now b) (now q) r z f × (zone < z) ⌝ }
+    ensures { λ v. ⌜ v ≡ curveAmountsOf (λ k. sumOf (reserveInZone (caseOf (now (b .entry))) (certificateOf (now (q .entry)) .amount) zone k) (upto r)) ⌝ }
+{
+    let mut sum = nothing();
+    let mut i: usize = 0;
+    while i < r {
+        let own = given_in_zone(b, q, r, z, f, zone, i);
+        sum = amounts_sum(sum, own);
+        i += 1;
+    }
+    sum
+}

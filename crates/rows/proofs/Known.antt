@@ -1,0 +1,142 @@
+-- What the searches of a standing certificate's rows know: sizes, records in range, and the rows family by family.
+use mathlib.Core.Path.{_≡_, refl, sym, _∙_, ap}
+use mathlib.Core.Bool.{Bool, true, false}
+use mathlib.Core.List.{List, [], _∷_, _++_, map}
+use Prim.Native.Nat.{ℕ, _+_, _*_, _<_, _≤_}
+use native.Mathlib.Nat.{mul-le-mul}
+use native.Mathlib.Omega.{arith}
+use lib.IntN.{pos, natAbs, _*ℤ_}
+use lib.ListN.{length}
+use Rattle.arith.specs.Sums.{sumOf, upto, across}
+use Rattle.arith.proofs.Lists.{length-across, length-upto, across-one}
+use Rattle.arith.proofs.Magnitudes.{abs-mul}
+use Rattle.arith.proofs.Sums.{upto-size}
+use Rattle.market.specs.declared.Refusal.{Refusal}
+use Rattle.market.specs.Case.{Case, curves}
+use Rattle.market.specs.CaseFile.{caseOf, resourceAt, resourcePlace}
+use Rattle.market.specs.UpperBounds.{energy}
+use Rattle.market.specs.Rows.{Row, Balance, Zone, Flowgate, marketRows, zoneRows, flowgateRows, limitRows, rows}
+use Rattle.market.specs.Certificate.{certificateOf}
+use Rattle.market.specs.InWords.{kwOf}
+use Rattle.market.specs.Records.{recordOf}
+use Rattle.market.specs.Refusals.{Finding, foundAt, firstFailing}
+use Rattle.market.proofs.FirstFailing.{orElse, first-append, first-none, passes, fails}
+use Rattle.records.specs.Ranged.{Ranged}
+use Rattle.records.proofs.Places.{resource-is}
+use Rattle.records.proofs.Ranged.{valid-resource}
+use Rattle.prices.specs.Standing.{Standing}
+use Rattle.prices.proofs.Known.{case-ranges, factor-size, flowgate-below, resource-below}
+use Rattle.reserves.proofs.Known.{amount-small}
+use Rattle.units.specs.Room.{SumRoom, ProductRoom}
+use Rattle.rows.specs.Tests.{EnergyBounded}
+use Rattle.rows.proofs.Search.{found-here, found-next}
+
+-- ---- energy
+pub energy-room : (q : List ℕ) (r : ℕ) → EnergyBounded q r → r ≤ 64 → (i : ℕ) → i < r → SumRoom (sumOf (λ j. kwOf (certificateOf q .amount) j energy) (upto i)) (kwOf (certificateOf q .amount) i energy)
+energy-room q r e few i h = omega (arith, e .most i h, upto-size (λ j. kwOf (certificateOf q .amount) j energy) 2000000 i (λ j l. e .most j (omega arith)))
+
+module _ {b q : List ℕ} {r z f : ℕ} (s : Standing b q r z f) where
+  pub energy-bounded : EnergyBounded q r
+  energy-bounded = record { most = λ i h. amount-small s i energy h }
+
+  -- ---- flows
+  pub part-room : (g i : ℕ) → g < f → i < r → ProductRoom (caseOf b .shiftFactor g i) (kwOf (certificateOf q .amount) i energy)
+  part-room g i h k =
+      record {
+        left = omega (arith, factor-size (s .prices) g i h k);
+        right = omega (arith, amount-small s i energy k);
+        product = omega (arith, mul-le-mul (factor-size (s .prices) g i h k) (amount-small s i energy k));
+      }
+
+  part-small : (g i : ℕ) → g < f → i < r → natAbs (caseOf b .shiftFactor g i *ℤ kwOf (certificateOf q .amount) i energy) ≤ 2000000000
+  part-small g i h k =
+      omega (arith, abs-mul (caseOf b .shiftFactor g i) (kwOf (certificateOf q .amount) i energy), mul-le-mul (factor-size (s .prices) g i h k) (amount-small s i energy k))
+
+  pub flow-room : (g i : ℕ) → g < f → i < r →
+      SumRoom (sumOf (λ j. caseOf b .shiftFactor g j *ℤ kwOf (certificateOf q .amount) j energy) (upto i)) (caseOf b .shiftFactor g i *ℤ kwOf (certificateOf q .amount) i energy)
+  flow-room g i h k =
+      omega (
+        arith,
+        part-small g i h k,
+        upto-size (λ j. caseOf b .shiftFactor g j *ℤ kwOf (certificateOf q .amount) j energy) 2000000000 i (λ j l. part-small g j h (omega arith)),
+        s .prices .case-bytes .most-resources,
+      )
+
+  pub limit-room : (g : ℕ) → g < f → ProductRoom (pos 1000) (caseOf b .flowgateLimit g)
+  limit-room g h =
+      let small = case-ranges (s .prices) .flowgate-limit g (flowgate-below (s .prices) h) .le in
+      record { left = omega arith; right = omega (arith, small); product = omega (arith, small) }
+
+  -- ---- a resource's record
+  pub resource-ranged : (i : ℕ) → i < r → Ranged (recordOf (resourceAt b (resourcePlace z i)))
+  resource-ranged i h = rw (resource-is (s .prices .case-bytes) i) (valid-resource b (s .prices .valid) i (resource-below (s .prices) h))
+
+-- ---- the rows family by family
+module _ (c : Case) where
+  zone-rows-long : length (zoneRows c) ≡ c .zones * 4
+  zone-rows-long = length-across (λ y. map (Zone y) curves) 4 (λ y. refl) (upto (c .zones)) ∙ ap (λ (m : ℕ). m * 4) (length-upto (c .zones))
+
+  -- a flowgate's row as a block of one
+  pub flowgate-blocks : across (λ g. Flowgate g ∷ []) (upto (c .flowgates)) ≡ flowgateRows c
+  flowgate-blocks = across-one Flowgate (upto (c .flowgates))
+
+  flowgate-rows-long : length (flowgateRows c) ≡ c .flowgates
+  flowgate-rows-long =
+      ap length (sym flowgate-blocks) ∙ length-across (λ g. Flowgate g ∷ []) 1 (λ g. refl) (upto (c .flowgates)) ∙ ap (λ (m : ℕ). m * 1) (length-upto (c .flowgates)) ∙ once (c .flowgates)
+    where
+      once : (m : ℕ) → m * 1 ≡ m
+      once m = omega arith
+
+-- for any test t of a row and any refusal r by its number
+module _ (t : Row → Bool) (r : ℕ → Refusal) (c : Case) where
+  abbrev balanceFound : Finding
+  balanceFound = firstFailing t r 1 (Balance ∷ [])
+
+  abbrev marketFound : Finding
+  marketFound = firstFailing t r 2 marketRows
+
+  abbrev zonesFound : Finding
+  zonesFound = firstFailing t r 6 (zoneRows c)
+
+  abbrev networkFound : Finding
+  networkFound = firstFailing t r (6 + c .zones * 4) (flowgateRows c ++ limitRows c)
+
+  rows-first : orElse balanceFound (orElse marketFound (orElse zonesFound networkFound)) ≡ firstFailing t r 1 (rows c)
+  unfolding rows
+  rows-first =
+      sym
+      (first-append t r 1 (Balance ∷ []) (marketRows ++ (zoneRows c ++ (flowgateRows c ++ limitRows c)))
+      ∙ ap (orElse balanceFound)
+      (first-append t r 2 marketRows (zoneRows c ++ (flowgateRows c ++ limitRows c))
+      ∙ ap (orElse marketFound)
+      (first-append t r 6 (zoneRows c) (flowgateRows c ++ limitRows c) ∙ rw (zone-rows-long c))))
+
+  -- row 1 is broken
+  pub balance-broken : t Balance ≡ false → foundAt r 1 ≡ firstFailing t r 1 (rows c)
+  balance-broken e = found-here r 1 (orElse marketFound (orElse zonesFound networkFound)) (λ z. absurd (omega arith)) (sym (fails t r 1 Balance [] e)) ∙ rows-first
+
+  -- row 1 is met: the market's rows, then the zones', then the others
+  module _ (met : t Balance ≡ true) where
+    balance-found : foundAt r 0 ≡ balanceFound
+    balance-found = sym (passes t r 1 Balance [] met ∙ first-none t r 2)
+
+    pub market-broken : (m : ℕ) → (m ≡ 0 → ⊥) → foundAt r m ≡ marketFound → foundAt r m ≡ firstFailing t r 1 (rows c)
+    market-broken m p h = found-next r 0 m refl balance-found (found-here r m (orElse zonesFound networkFound) p h) ∙ rows-first
+
+    module _ (m : ℕ) (none : m ≡ 0) (h : foundAt r m ≡ marketFound) where
+      pub zone-broken : (n : ℕ) → (n ≡ 0 → ⊥) → foundAt r n ≡ zonesFound → foundAt r n ≡ firstFailing t r 1 (rows c)
+      zone-broken n p k = found-next r 0 n refl balance-found (found-next r m n none h (found-here r n networkFound p k)) ∙ rows-first
+
+      pub rest-broken : (n l : ℕ) → n ≡ 0 → foundAt r n ≡ zonesFound → foundAt r l ≡ networkFound → foundAt r l ≡ firstFailing t r 1 (rows c)
+      rest-broken n l e k j = found-next r 0 l refl balance-found (found-next r m l none h (found-next r n l e k j)) ∙ rows-first
+
+  -- the flowgates' rows, numbered from s, and then the resources'
+  module _ (s : ℕ) where
+    network-first : orElse (firstFailing t r s (flowgateRows c)) (firstFailing t r (s + c .flowgates) (limitRows c)) ≡ firstFailing t r s (flowgateRows c ++ limitRows c)
+    network-first = sym (first-append t r s (flowgateRows c) (limitRows c) ∙ rw (flowgate-rows-long c))
+
+    pub flowgate-broken : (n : ℕ) → (n ≡ 0 → ⊥) → foundAt r n ≡ firstFailing t r s (flowgateRows c) → foundAt r n ≡ firstFailing t r s (flowgateRows c ++ limitRows c)
+    flowgate-broken n p h = found-here r n (firstFailing t r (s + c .flowgates) (limitRows c)) p h ∙ network-first
+
+    pub limit-broken : (n m : ℕ) → n ≡ 0 → foundAt r n ≡ firstFailing t r s (flowgateRows c) → foundAt r m ≡ firstFailing t r (s + c .flowgates) (limitRows c) → foundAt r m ≡ firstFailing t r s (flowgateRows c ++ limitRows c)
+    limit-broken n m e h k = found-next r n m e h k ∙ network-first

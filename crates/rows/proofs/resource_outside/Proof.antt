@@ -1,0 +1,48 @@
+use mathlib.Core.Path.{_≡_, ap, _∙_}
+use mathlib.Core.List.{map}
+use Rattle.market.specs.declared.Refusal.the-variants.{RowBroken}
+use Rattle.market.specs.CaseFile.{caseOf}
+use Rattle.market.specs.Rows.{Limited, limits}
+use Rattle.market.specs.Certificate.{certificateOf}
+use Rattle.market.specs.Outcome.{rowMet}
+use Rattle.market.specs.Records.{recordOf}
+use Rattle.records.proofs.Places.{resource-is}
+use Rattle.prices.proofs.Known.{resource-below}
+use Rattle.reserves.proofs.Known.{amounts-small}
+use Rattle.rows.specs.Tests.{ownLimitsOf}
+use Rattle.rows.proofs.Known.{resource-ranged}
+use Rattle.rows.proofs.Search.{first-false}
+use Rattle.rows.proofs.Tests.{limit-tests}
+use borrow.Author.Needs.{needs}
+use Rattle.rows.proofs.resource_outside.Statement.{statement}
+use Rattle.rows.proofs.resource_outside.Tie as tie
+
+own-limits-requires : tie.Need-own-limits-requires
+own-limits-requires c κs = let s = c .before .before .before in rw (c .resource-at .ensures) (resource-ranged (s .pre .0) (s .args .i) (s .pre .1 .0))
+
+first-outside-requires : tie.Need-first-outside-requires
+first-outside-requires c κs = let s = c .before .before .before .before .before in rw (c .amounts-at .ensures) (amounts-small (s .pre .0) (s .args .i) (s .pre .1 .0), s .pre .1 .1)
+
+-- its limits are the case's
+own-is : (c : tie.After-own-limits) →
+    let s = c .before .before .before .before in
+    c .own-limits .result ≡ ownLimitsOf ((caseOf (s .args .b .now)) .resource (s .args .i))
+own-is c =
+    let s = c .before .before .before .before in
+    c .own-limits .ensures ((caseOf (s .args .b .now)) .resource (s .args .i)) (c .before .resource-at .ensures ∙ ap recordOf (resource-is (s .pre .0 .prices .case-bytes) (s .args .i)))
+
+returns : tie.Need-returns
+returns c =
+    let s = c .before .before .before .before .before .before in
+    rw (c .first-outside .ensures, c .before .amounts-at .ensures, own-is (c .before .before), limit-tests (caseOf (s .args .b .now)) (certificateOf (s .args .q .now)) (s .args .i) (resource-below (s .pre .0 .prices) (s .pre .1 .0)))
+    (first-false (rowMet (caseOf (s .args .b .now)) (certificateOf (s .args .q .now))) RowBroken (s .args .first) (map (Limited (s .args .i)) limits) (s .pre .1 .1 .from))
+
+pub resource-outside-spec : {M : Type 1} → statement M
+resource-outside-spec =
+    tie.close
+    (tie.spec
+    (λ c κs. search needs)
+    own-limits-requires
+    (λ c κs. search needs)
+    first-outside-requires
+    returns)

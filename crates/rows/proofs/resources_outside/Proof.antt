@@ -1,0 +1,68 @@
+use mathlib.Core.Path.{_≡_, refl, sym}
+use Prim.Native.Nat.{_+_, _*_, _-_, _≤_}
+use native.Mathlib.Omega.{arith}
+use Rattle.arith.specs.Sums.{upto, across}
+use Rattle.market.specs.declared.Refusal.the-variants.{RowBroken}
+use Rattle.market.specs.CaseFile.{caseOf}
+use Rattle.market.specs.Certificate.{certificateOf}
+use Rattle.market.specs.Refusals.{clear, foundAt, firstFailing}
+use Rattle.market.specs.Outcome.{rowMet}
+use Rattle.records.proofs.Places.{resources-is}
+use Rattle.prices.proofs.Known.{resource-below}
+use Rattle.rows.proofs.Search.{search-none, search-more, search-stop}
+use mathlib.Core.List.{map}
+use Rattle.market.specs.Rows.{Limited, limits}
+use borrow.Author.Needs.{needs}
+use Rattle.rows.proofs.resources_outside.Statement.{statement}
+use Rattle.rows.proofs.resources_outside.Tie as tie
+
+abbrev Inv-loop : tie.InvT-loop
+Inv-loop b q r z f first row₀ i₀ row i = (i ≤ r) × (row ≡ first + i * 5) × (firstFailing (rowMet (caseOf b) (certificateOf q)) RowBroken first (across (λ i. map (Limited i) limits) (upto i)) ≡ clear)
+
+abbrev μ-loop : tie.MeasureT-loop
+μ-loop b q r z f first row₀ i₀ row i = r - i
+
+loop-holds : tie.Need-loop-holds Inv-loop μ-loop
+loop-holds c = let s = c .before .before in (omega arith, omega arith, search-none (rowMet (caseOf (s .args .b .now)) (certificateOf (s .args .q .now))) RowBroken (λ i. map (Limited i) limits) 5 (λ i. refl) (s .args .first))
+
+resource-outside-requires : tie.Need-resource-outside-requires Inv-loop μ-loop
+resource-outside-requires c κs = let s = c .before .before .before .before in (s .pre .0, (omega arith, record { from = omega arith; to = omega (arith, s .pre .0 .prices .case-bytes .most-resources) }))
+
+-- what is found there, by the row's number
+told : (c : tie.After-resource-outside Inv-loop μ-loop) →
+    let s = c .before .before .before .before .before in
+    let i = c .before .before .loop .i in
+    foundAt RowBroken (c .resource-outside .result) ≡ firstFailing (rowMet (caseOf (s .args .b .now)) (certificateOf (s .args .q .now))) RowBroken ((s .args .first) + i * 5) (map (Limited i) limits)
+told c = rw (c .before .before .loop .inv .1) at (c .resource-outside .ensures)
+
+returns : tie.Need-returns Inv-loop μ-loop
+returns c = let s = c .before .before .before .before .before .before in search-stop (rowMet (caseOf (s .args .b .now)) (certificateOf (s .args .q .now))) RowBroken (λ i. map (Limited i) limits) 5 (λ i. refl) (s .args .first) (c .before .before .before .loop .i) ((caseOf (s .args .b .now)) .resources) (c .before .resource-outside .result) (resource-below (s .pre .0 .prices) (omega arith)) (c .if1 .taken) (c .before .before .before .loop .inv .2) (told (c .before))
+
+add-row : tie.Need-add-row Inv-loop μ-loop
+add-row c = let s = c .before .before .before .before .before .before in omega (arith, s .pre .0 .prices .case-bytes .most-resources)
+
+loop-again : tie.Need-loop-again Inv-loop μ-loop
+loop-again c =
+    let s = c .before .before .before .before .before .before in
+    (omega arith, omega arith, search-more (rowMet (caseOf (s .args .b .now)) (certificateOf (s .args .q .now))) RowBroken (λ i. map (Limited i) limits) 5 (λ i. refl) (s .args .first) (c .before .before .before .loop .i) (c .before .resource-outside .result) (c .before .before .before .loop .inv .2) (c .if1 .left) (told (c .before)))
+
+returns-2 : tie.Need-returns-2 Inv-loop μ-loop
+returns-2 c =
+    let s = c .before .before .before .before in
+    let e : c .before .loop .i ≡ (caseOf (s .args .b .now)) .resources = omega (arith, resources-is (s .pre .0 .prices .case-bytes)) in
+    sym (rw e at (c .before .loop .inv .2))
+
+pub resources-outside-spec : {M : Type 1} → statement M
+resources-outside-spec =
+    tie.close
+    (tie.spec
+    Inv-loop
+    μ-loop
+    loop-holds
+    resource-outside-requires
+    returns
+    add-row
+    (λ c. search needs)
+    (λ c. search needs)
+    loop-again
+    returns-2)

@@ -1,0 +1,60 @@
+-- The tests of a family's rows on figures by value, in the words of 01, and the first that fails.
+use mathlib.Core.Bool.{Bool, true, false}
+use mathlib.Core.List.{List, [], _∷_}
+use Prim.Native.Nat.{ℕ, suc, _<_, _≤_}
+use lib.IntN.{_+ℤ_, _-ℤ_}
+use lib.Signed.{leZ}
+use Rattle.market.specs.declared.Amounts.{Amounts}
+use Rattle.market.specs.declared.CurveAmounts.{CurveAmounts}
+use Rattle.market.specs.declared.Refusal.the-variants.{RowBroken}
+use Rattle.market.specs.Case.{Resource}
+use Rattle.market.specs.CaseFile.{caseOf}
+use Rattle.market.specs.Limits.{MAX, MIN, HI, LO}
+use Rattle.market.specs.UpperBounds.{energy, Provided}
+use Rattle.market.specs.Rows.{Row}
+use Rattle.market.specs.Certificate.{certificateOf}
+use Rattle.market.specs.Refusals.{Finding, firstFailing}
+use Rattle.market.specs.Outcome.{rowMet}
+use Rattle.market.specs.Records.{power}
+use Rattle.rows.specs.declared.OwnLimits.{OwnLimits}
+
+-- the number of the first test that is false, counted from n, or 0 for none
+unfoldable pub firstFalse : ℕ → List Bool → ℕ
+firstFalse n [] = 0
+firstFalse n (true ∷ ts) = firstFalse (suc n) ts
+firstFalse n (false ∷ ts) = n
+
+-- what is found of rows, numbered from n on, of the case in b and the certificate in q
+abbrev pub brokenFrom : List ℕ → List ℕ → ℕ → List Row → Finding
+brokenFrom b q n rs = firstFailing (rowMet (caseOf b) (certificateOf q)) RowBroken n rs
+
+-- a row's number, up to so many: no case has more than 1 + 4 + 4 × 8 + 16 + 5 × 64 rows
+pub record Numbered (most n : ℕ) : Type 0 where
+  pub from : 1 ≤ n
+  pub to : n ≤ most
+
+-- the energy that a certificate gives each of r resources is at most 2,000,000 kW
+pub record EnergyBounded (q : List ℕ) (r : ℕ) : Type 0 where
+  pub most : (i : ℕ) → i < r → certificateOf q .amount (Provided i energy) ≤ 2000000
+
+-- a reserve row has at least what it needs
+abbrev pub shortTests : CurveAmounts → CurveAmounts → List Bool
+shortTests have need =
+    leZ (need .operating .0) (have .operating .0)
+    ∷ leZ (need .«regulating_plus_spinning» .0) (have .«regulating_plus_spinning» .0)
+    ∷ leZ (need .regulating .0) (have .regulating .0)
+    ∷ leZ (need .«short_term» .0) (have .«short_term» .0)
+    ∷ []
+
+unfoldable pub ownLimitsOf : Resource → OwnLimits
+ownLimitsOf s = record { max = power (MAX s); min = power (MIN s); high = power (HI s); low = power (LO s) }
+
+-- e+g+c ≤ MAX, e+s ≤ MAX, e-g ≥ MIN, e ≤ HI, e ≥ LO
+abbrev pub limitTests : Amounts → OwnLimits → List Bool
+limitTests a l =
+    leZ (a .energy .0 +ℤ a .regulation .0 +ℤ a .contingency .0) (l .max .0)
+    ∷ leZ (a .energy .0 +ℤ a .«on_line_short_term» .0) (l .max .0)
+    ∷ leZ (l .min .0) (a .energy .0 -ℤ a .regulation .0)
+    ∷ leZ (a .energy .0) (l .high .0)
+    ∷ leZ (l .low .0) (a .energy .0)
+    ∷ []

@@ -1,0 +1,291 @@
+// The first broken row of a certificate, by families: row 1, the market's reserve rows, each zone's, the flowgates', each
+// resource's own five (01, 'Rows', refusal 14). A family's function answers the number of its first broken row, or 0.
+ghost use mathlib.Core.Path.{_≡_};
+ghost use mathlib.Core.List.{[], _∷_, _++_, map};
+ghost use Prim.Native.Nat.{_+_, _*_, _<_};
+ghost use lib.IntN.{pos, _*ℤ_};
+ghost use Rattle.arith.specs.Sums.{sumOf, upto};
+ghost use Rattle.market.specs.declared.Refusal.the-variants.{RowBroken};
+ghost use Rattle.market.specs.Case.{Resource as Figures, curves};
+ghost use Rattle.market.specs.CaseFile.{caseOf};
+ghost use Rattle.market.specs.UpperBounds.{energy};
+ghost use Rattle.market.specs.Rows.{Balance, Zone, Flowgate, Limited, limits, marketRows, zoneRows, flowgateRows, limitRows, rows};
+ghost use Rattle.market.specs.Certificate.{certificateOf};
+ghost use Rattle.market.specs.InWords.{kwOf};
+ghost use Rattle.market.specs.Records.{kw, recordOf, curveAmountsOf};
+ghost use Rattle.market.specs.Refusals.{foundAt, firstFailing};
+ghost use Rattle.market.specs.Outcome.{rowMet};
+ghost use Rattle.records.specs.Places.{ZoneIn};
+ghost use Rattle.records.specs.Ranged.{Ranged};
+ghost use Rattle.entries.specs.CertificateBytes.{CertificateBytes};
+ghost use Rattle.prices.specs.Standing.{Standing};
+ghost use Rattle.reserves.specs.Given.{SmallAmounts};
+ghost use Rattle.rows.specs.Tests.{firstFalse, shortTests, limitTests, ownLimitsOf, EnergyBounded, brokenFrom, Numbered};
+use market::Amounts;
+use market::CurveAmounts;
+use market::Kw;
+use market::Resource;
+
+// ---- row 1
+
+// The energy of all resources.
+fn energy_total(q: &[u8], r: usize, z: usize, f: usize) -> Kw
+    requires { ⌜ CertificateBytes (now q) r z f × EnergyBounded (now q) r ⌝ }
+    ensures { λ e. ⌜ e ≡ kw (sumOf (λ i. kwOf (certificateOf (now (q .entry)) .amount) i energy) (upto r)) ⌝ }
+{
+    let mut sum = Kw(0);
+    let mut i: usize = 0;
+    while i < r {
+        let a = entries::amounts_at(q, r, z, f, i);
+        sum = units::kw_sum(sum, a.energy);
+        i += 1;
+    }
+    sum
+}
+
+// Energy is demand, neither less nor more.
+fn balanced(b: &[u8], q: &[u8], r: usize, z: usize, f: usize) -> bool
+    requires { ⌜ Standing (now b) (now q) r z f ⌝ }
+    ensures { λ t. ⌜ t ≡ rowMet (caseOf (now (b .entry))) (certificateOf (now (q .entry))) Balance ⌝ }
+{
+    let total = energy_total(q, r, z, f);
+    let demand = records::demand(b);
+    if !units::at_least(total, demand) {
+        return false;
+    }
+    units::at_least(demand, total)
+}
+
+// ---- reserve rows
+
+// The first of four rows, numbered from `first`, that has less than it needs.
+fn first_short(have: CurveAmounts, need: CurveAmounts, first: u32) -> u32
+    requires { ⌜ Numbered 374 first ⌝ }
+    ensures { λ n. ⌜ n ≡ firstFalse first (shortTests have need) ⌝ }
+{
+    if !units::at_least(have.operating, need.operating) {
+        return first;
+    }
+    if !units::at_least(have.regulating_plus_spinning, need.regulating_plus_spinning) {
+        return first + 1;
+    }
+    if !units::at_least(have.regulating, need.regulating) {
+        return first + 2;
+    }
+    if !units::at_least(have.short_term, need.short_term) {
+        return first + 3;
+    }
+    0
+}
+
+// Market-wide against the cleared quantities: rows 2 to 5.
+fn market_short(b: &[u8], q: &[u8], r: usize, z: usize, f: usize) -> u32
+    requires { ⌜ Standing (now b) (now q) r z f ⌝ }
+    ensures { λ n. ⌜ foundAt RowBroken n ≡ brokenFrom (now (b .entry)) (now (q .entry)) 2 marketRows ⌝ }
+{
+    let have = reserves::market_reserves(b, q, r, z, f);
+    let need = entries::cleared(q, r, z, f);
+    first_short(have, need, 2)
+}
+
+// What a zone needs.
+fn required(b: &[u8], zone: usize) -> CurveAmounts
+    requires { ⌜ ZoneIn (now b) zone ⌝ }
+    ensures { λ v. ⌜ v ≡ curveAmountsOf (λ k. pos (caseOf (now (b .entry)) .zoneRequirement zone k)) ⌝ }
+{
+    let all = records::zone_at(b, zone);
+    CurveAmounts {
+        operating: all.of[0],
+        regulating_plus_spinning: all.of[1],
+        regulating: all.of[2],
+        short_term: all.of[3],
+    }
+}
+
+// A zone's four rows, numbered from `first`.
+fn zone_short(b: &[u8], q: &[u8], r: usize, z: usize, f: usize, zone: usize, first: u32) -> u32
+    requires { ⌜ Standing (now b) (now q) r z f × ((zone < z) × Numbered 374 first) ⌝ }
+    ensures { λ n. ⌜ foundAt RowBroken n ≡ brokenFrom (now (b .entry)) (now (q .entry)) first (map (Zone zone) curves) ⌝ }
+{
+    let have = reserves::zone_reserves(b, q, r, z, f, zone);
+    let need = required(b, zone);
+    first_short(have, need, first)
+}
+
+fn zones_short(b: &[u8], q: &[u8], r: usize, z: usize, f: usize) -> u32
+    requires { ⌜ Standing (now b) (now q) r z f ⌝ }
+    ensures { λ n. ⌜ foundAt RowBroken n ≡ brokenFrom (now (b .entry)) (now (q .entry)) 6 (zoneRows (caseOf (now (b .entry)))) ⌝ }
+{
+    let mut row: u32 = 6;
+    let mut zone: usize = 0;
+    while zone < z {
+        let n = zone_short(b, q, r, z, f, zone, row);
+        if n != 0 {
+            return n;
+        }
+        row += 4;
+        zone += 1;
+    }
+    0
+}
+
+// ---- flowgates' rows
+
+// What the resources make flow, in thousandths of a kW.
+fn flow(b: &[u8], q: &[u8], r: usize, z: usize, f: usize, g: usize) -> Kw
+    requires { ⌜ Standing (now b) (now q) r z f × (g < f) ⌝ }
+    ensures { λ v. ⌜ v ≡ kw (sumOf (λ i. caseOf (now (b .entry)) .shiftFactor g i *ℤ kwOf (certificateOf (now (q .entry)) .amount) i energy) (upto r)) ⌝ }
+{
+    let mut sum = Kw(0);
+    let mut i: usize = 0;
+    while i < r {
+        let factor = records::shift_factor_at(b, r, z, g, i);
+        let a = entries::amounts_at(q, r, z, f, i);
+        let part = units::flow(factor, a.energy);
+        sum = units::kw_sum(sum, part);
+        i += 1;
+    }
+    sum
+}
+
+// Its row, numbered `row`: at most the limit flows.
+fn flowgate_over(b: &[u8], q: &[u8], r: usize, z: usize, f: usize, g: usize, row: u32) -> u32
+    requires { ⌜ Standing (now b) (now q) r z f × ((g < f) × Numbered 374 row) ⌝ }
+    ensures { λ n. ⌜ foundAt RowBroken n ≡ brokenFrom (now (b .entry)) (now (q .entry)) row (Flowgate g ∷ []) ⌝ }
+{
+    let flows = flow(b, q, r, z, f, g);
+    let limit = records::flowgate_limit_at(b, r, z, g);
+    let most = units::flow(1000, limit);
+    if units::at_least(most, flows) {
+        return 0;
+    }
+    row
+}
+
+fn flowgates_over(b: &[u8], q: &[u8], r: usize, z: usize, f: usize, first: u32) -> u32
+    requires { ⌜ Standing (now b) (now q) r z f × Numbered 54 first ⌝ }
+    ensures { λ n. ⌜ foundAt RowBroken n ≡ brokenFrom (now (b .entry)) (now (q .entry)) first (flowgateRows (caseOf (now (b .entry)))) ⌝ }
+{
+    let mut row = first;
+    let mut g: usize = 0;
+    while g < f {
+        let n = flowgate_over(b, q, r, z, f, g, row);
+        if n != 0 {
+            return n;
+        }
+        row += 1;
+        g += 1;
+    }
+    0
+}
+
+// ---- each resource's own rows
+
+// MAX, MIN, HI and LO.
+pub struct OwnLimits {
+    pub max: Kw,
+    pub min: Kw,
+    pub high: Kw,
+    pub low: Kw,
+}
+
+fn own_limits(resource: Resource) -> OwnLimits
+    requires { ⌜ Ranged resource ⌝ }
+    ensures { λ l. ⌜ ((s : Figures) → resource ≡ recordOf s → l ≡ ownLimitsOf s) ⌝ }
+{
+    OwnLimits {
+        max: limits::max_limit(resource),
+        min: limits::min_limit(resource),
+        high: limits::high_limit(resource),
+        low: limits::low_limit(resource),
+    }
+}
+
+// The first of five rows, numbered from `first`, that amounts break: e+g+c ≤ MAX, e+s ≤ MAX, e-g ≥ MIN, e ≤ HI, e ≥ LO.
+fn first_outside(a: Amounts, l: OwnLimits, first: u32) -> u32
+    requires { ⌜ SmallAmounts a × Numbered 374 first ⌝ }
+    ensures { λ n. ⌜ n ≡ firstFalse first (limitTests a l) ⌝ }
+{
+    let up = units::kw_sum(a.energy, a.regulation);
+    let with_reserve = units::kw_sum(up, a.contingency);
+    if !units::at_least(l.max, with_reserve) {
+        return first;
+    }
+    let with_short_term = units::kw_sum(a.energy, a.on_line_short_term);
+    if !units::at_least(l.max, with_short_term) {
+        return first + 1;
+    }
+    let down = units::kw_difference(a.energy, a.regulation);
+    if !units::at_least(down, l.min) {
+        return first + 2;
+    }
+    if !units::at_least(l.high, a.energy) {
+        return first + 3;
+    }
+    if !units::at_least(a.energy, l.low) {
+        return first + 4;
+    }
+    0
+}
+
+// The five rows of resource i, numbered from `first`.
+fn resource_outside(b: &[u8], q: &[u8], r: usize, z: usize, f: usize, i: usize, first: u32) -> u32
+    requires { ⌜ Standing (now b) (now q) r z f × ((i < r) × Numbered 374 first) ⌝ }
+    ensures { λ n. ⌜ foundAt RowBroken n ≡ brokenFrom (now (b .entry)) (now (q .entry)) first (map (Limited i) limits) ⌝ }
+{
+    let resource = records::resource_at(b, z, i);
+    let own = own_limits(resource);
+    let a = entries::amounts_at(q, r, z, f, i);
+    first_outside(a, own, first)
+}
+
+fn resources_outside(b: &[u8], q: &[u8], r: usize, z: usize, f: usize, first: u32) -> u32
+    requires { ⌜ Standing (now b) (now q) r z f × Numbered 54 first ⌝ }
+    ensures { λ n. ⌜ foundAt RowBroken n ≡ brokenFrom (now (b .entry)) (now (q .entry)) first (limitRows (caseOf (now (b .entry)))) ⌝ }
+{
+    let mut row = first;
+    let mut i: usize = 0;
+    while i < r {
+        let n = resource_outside(b, q, r, z, f, i, row);
+        if n != 0 {
+            return n;
+        }
+        row += 5;
+        i += 1;
+    }
+    0
+}
+
+// ---- all rows
+
+// The first broken row of a flowgate or of a resource.
+fn network_broken(b: &[u8], q: &[u8], r: usize, z: usize, f: usize) -> u32
+    requires { ⌜ Standing (now b) (now q) r z f ⌝ }
+    ensures { λ n. ⌜ foundAt RowBroken n ≡ brokenFrom (now (b .entry)) (now (q .entry)) (6 + z * 4) (flowgateRows (caseOf (now (b .entry))) ++ limitRows (caseOf (now (b .entry)))) ⌝ }
+{
+    let first = 6 + z as u32 * 4;
+    let n = flowgates_over(b, q, r, z, f, first);
+    if n != 0 {
+        return n;
+    }
+    resources_outside(b, q, r, z, f, first + f as u32)
+}
+
+// The first broken row of all.
+pub fn first_broken(b: &[u8], q: &[u8], r: usize, z: usize, f: usize) -> u32
+    requires { ⌜ Standing (now b) (now q) r z f ⌝ }
+    ensures { λ n. ⌜ foundAt RowBroken n ≡ firstFailing (rowMet (caseOf (now (b .entry))) (certificateOf (now (q .entry)))) RowBroken 1 (rows (caseOf (now (b .entry)))) ⌝ }
+{
+    if !balanced(b, q, r, z, f) {
+        return 1;
+    }
+    let market = market_short(b, q, r, z, f);
+    if market != 0 {
+        return market;
+    }
+    let zones = zones_short(b, q, r, z, f);
+    if zones != 0 {
+        return zones;
+    }
+    network_broken(b, q, r, z, f)
+}
