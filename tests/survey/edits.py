@@ -1,7 +1,8 @@
 """Plausible wrong definitions: one edit of crates/market/specs each.
 
 A row is (name, file, old text, new text, what else catches it). The last is None where a theorem of the crate must refuse
-the edit; else the edit leaves every theorem true, and the text says what shows it instead.
+the edit; else the edit leaves every theorem true, and the text says what shows it instead. Lines are exchanged one by one, so a
+new line that equals a later old one is told apart by a second space.
 """
 
 REFERENCE = "the second implementation"
@@ -72,14 +73,14 @@ EDITS = [
     ("spinning_alone", "Prices", "spinningPrice y z = bothRows y z operating +ℤ bothRows y z regulatingPlusSpinning", "spinningPrice y z = bothRows y z regulatingPlusSpinning", None),
     # refusals and operations
     ("numbers_swapped", "Refusals", "numberOf FieldRange = 5\nnumberOf StepRule = 6", "numberOf FieldRange = 6\nnumberOf StepRule = 5", None),
-    ("order_swapped", "Outcome", "∷ unless (fieldsInRange (caseOf b)) FieldRange\n    ∷ unless (stepsRule (caseOf b)) StepRule", "∷ unless (stepsRule (caseOf b)) StepRule\n    ∷ unless (fieldsInRange (caseOf b)) FieldRange", None),
+    ("order_swapped", "Outcome", "∷ unless (fieldsInRange (caseOf b)) FieldRange\n    ∷ unless (stepsRule (caseOf b)) StepRule", "∷ unless (stepsRule  (caseOf b)) StepRule\n    ∷ unless (fieldsInRange (caseOf b)) FieldRange", None),
     ("balance_at_least", "Outcome", "meets equal s = withinℤ (pos 0) (pos 0) s", "meets equal s = leZ (pos 0) s", None),
     ("places_from_0", "Outcome", "firstFailing (withinBound c k) AboveBound 1 (quantities c)", "firstFailing (withinBound c k) AboveBound 0 (quantities c)", None),
     ("room_for_one_less", "Outcome", "room needed n = unless (leb needed n) BufferShort", "room needed n = unless (leb needed (Prim.Native.Nat.suc n)) BufferShort", None),
     ("byte_order", "Numbers", "u16Bytes n = (n / 256 % 256) ∷ (n % 256) ∷ []", "u16Bytes n = (n % 256) ∷ (n / 256 % 256) ∷ []", None),
     ("signed_as_unsigned", "Numbers", "fieldAt i32 b p = i32At b p", "fieldAt i32 b p = pos (u32At b p)", None),
     ("fields_swapped", "Numbers", "replicate 6 u8 ++ (i32 ∷ replicate 16 u32 ++", "(i32 ∷ replicate 6 u8) ++ (replicate 16 u32 ++", None),
-    ("three_after_sixteen", "Numbers", "∷ unless (countsInRange vs) Counts\n    ∷ unless (numbersFit (fieldsFor fields vs) vs) NumberList", "∷ unless (numbersFit (fieldsFor fields vs) vs) NumberList\n    ∷ unless (countsInRange vs) Counts", None),
+    ("three_after_sixteen", "Numbers", "∷ unless (countsInRange vs) Counts\n    ∷ unless (numbersFit (fieldsFor fields vs) vs) NumberList", "∷ unless (numbersFit  (fieldsFor fields vs) vs) NumberList\n    ∷ unless (countsInRange vs) Counts", None),
     ("length_counts_itself", "Program", "caseIn input = take (4 + u32At input 0) input", "caseIn input = take (u32At input 0) input", None),
     ("figures_swapped", "Program", "line boundWord (v .bound .0 ∷ [])", "line boundWord (v .gap .0 ∷ [])", None),
 ]

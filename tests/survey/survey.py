@@ -29,8 +29,10 @@ def write_edits(repository):
             if source.read().count(old) != 1:
                 absent.add(name)
                 continue
+        # an edit's texts are single lines: one pair for each line that changes
+        pairs = [f"old: {o}\nnew: {n}\n" for o, n in zip(old.split("\n"), new.split("\n"), strict=True) if o != n]
         with open(os.path.join(folder, name + ".edit"), "w", encoding="utf8") as edit:
-            edit.write(f"file: specs/{stem}.antt\nold: {old}\nnew: {new}\n")
+            edit.write(f"file: specs/{stem}.antt\n" + "".join(pairs))
     return absent
 
 
