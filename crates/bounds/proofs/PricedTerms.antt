@@ -95,7 +95,7 @@ unfolding sumOf
 over-reserves f = rw (+ℤ-idr (f offLineShortTerm))
 
 module _ (c : Case) (y : Prices) (h : CaseRanges c) (p : PriceRanges c y) (i : ℕ) (n : i < c .resources) where
-  step-least-is : (j : ℕ) → j < energySteps → stepLeast (netsOf c y i) (onLine (c .resource i)) (offerStep (offerStepsOf (c .resource i)) j) ≡ lowest c y (EnergyStep i j)
+  pub step-least-is : (j : ℕ) → j < energySteps → stepLeast (netsOf c y i) (onLine (c .resource i)) (offerStep (offerStepsOf (c .resource i)) j) ≡ lowest c y (EnergyStep i j)
   unfolding stepLeast netsOf offerStepOf lowest width
   step-least-is j l = rw (offer-step-is (c .resource i) j l, step-is c y h p i n j, chosen (onLine (c .resource i)) (c .resource i .stepWidth j))
 
@@ -117,7 +117,7 @@ module _ (c : Case) (y : Prices) (h : CaseRanges c) (p : PriceRanges c y) (i : �
 
 -- ---- the curves
 module _ (c : Case) (y : Prices) where
-  curve-step-least-is : (k : Curve) (j : ℕ) → j < curveSteps → curveStepLeast (millicents (y (Market k))) (curveStep (curveStepsOf c k) j) ≡ lowest c y (CurveStep k j)
+  pub curve-step-least-is : (k : Curve) (j : ℕ) → j < curveSteps → curveStepLeast (millicents (y (Market k))) (curveStep (curveStepsOf c k) j) ≡ lowest c y (CurveStep k j)
   unfolding curveStepLeast curveStepOf lowest width
   curve-step-least-is k j l = rw (curve-step-is c k j l, net-prices-in-words c y .curve-step k j)
 

@@ -29,7 +29,7 @@ use market::Resource;
 // ---- row 1
 
 // The energy of all resources.
-fn energy_total(q: &[u8], r: usize, z: usize, f: usize) -> Kw
+pub fn energy_total(q: &[u8], r: usize, z: usize, f: usize) -> Kw
     requires { ⌜ CertificateBytes (now q) r z f × EnergyBounded (now q) r ⌝ }
     ensures { λ e. ⌜ e ≡ kw (sumOf (λ i. kwOf (certificateOf (now (q .entry)) .amount) i energy) (upto r)) ⌝ }
 {
@@ -89,7 +89,7 @@ fn market_short(b: &[u8], q: &[u8], r: usize, z: usize, f: usize) -> u32
 }
 
 // What a zone needs.
-fn required(b: &[u8], zone: usize) -> CurveAmounts
+pub fn required(b: &[u8], zone: usize) -> CurveAmounts
     requires { ⌜ ZoneIn (now b) zone ⌝ }
     ensures { λ v. ⌜ v ≡ curveAmountsOf (λ k. pos (caseOf (now (b .entry)) .zoneRequirement zone k)) ⌝ }
 {
@@ -132,7 +132,7 @@ fn zones_short(b: &[u8], q: &[u8], r: usize, z: usize, f: usize) -> u32
 // ---- flowgates' rows
 
 // What the resources make flow, in thousandths of a kW.
-fn flow(b: &[u8], q: &[u8], r: usize, z: usize, f: usize, g: usize) -> Kw
+pub fn flow(b: &[u8], q: &[u8], r: usize, z: usize, f: usize, g: usize) -> Kw
     requires { ⌜ Standing (now b) (now q) r z f × (g < f) ⌝ }
     ensures { λ v. ⌜ v ≡ kw (sumOf (λ i. caseOf (now (b .entry)) .shiftFactor g i *ℤ kwOf (certificateOf (now (q .entry)) .amount) i energy) (upto r)) ⌝ }
 {
