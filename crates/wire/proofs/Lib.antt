@@ -1,1 +1,2 @@
+pub mod SignedBits
 pub mod Stores

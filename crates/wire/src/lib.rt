@@ -4,8 +4,8 @@ ghost use mathlib.Core.Path.{_≡_};
 ghost use Prim.Native.Nat.{ℕ, _+_, _<_, _≤_};
 ghost use Rattle.market.specs.Bytes.{u8At, u16At, u32At, signed, i16At, i32At};
 ghost use mathlib.Core.List.{[], _∷_};
-ghost use Rattle.market.specs.Numbers.{u16Bytes, u32Bytes};
-ghost use Rattle.wire.specs.Within.{Within, written};
+ghost use Rattle.market.specs.Numbers.{u16Bytes, u32Bytes, unsigned, i16, i32, fieldBytes};
+ghost use Rattle.wire.specs.Within.{Within, Signed, written};
 
 fn wide(x: u8) -> u32
     ensures { λ r. ⌜ (r ≡ x) × (r < 256) ⌝ }
@@ -93,4 +93,32 @@ pub fn put_u32(out: &mut [u8], at: usize, n: u32)
     out[at + 1] = (n / 65536 % 256) as u8;
     out[at + 2] = (n / 256 % 256) as u8;
     out[at + 3] = (n % 256) as u8;
+}
+
+// The bits of a number of a width whose half range is `half`: below 0, itself plus the range.
+fn bits_of(v: i64, half: u32) -> u32
+    requires { ⌜ Signed half v × (half ≤ 2147483648) ⌝ }
+    ensures { λ r. ⌜ r ≡ unsigned (half + half) v ⌝ }
+{
+    if v >= 0 {
+        return v as u32;
+    }
+    let range = half as i64 + half as i64;
+    (v + range) as u32
+}
+
+pub fn put_i16(out: &mut [u8], at: usize, v: i64)
+    requires { ⌜ Within (now out) at 2 × Signed 32768 v ⌝ }
+    ensures { λ _. ⌜ now (out .exit) ≡ written at (fieldBytes i16 v) (now (out .entry)) ⌝ }
+{
+    let n = bits_of(v, 32768);
+    put_u16(out, at, n);
+}
+
+pub fn put_i32(out: &mut [u8], at: usize, v: i64)
+    requires { ⌜ Within (now out) at 4 × Signed 2147483648 v ⌝ }
+    ensures { λ _. ⌜ now (out .exit) ≡ written at (fieldBytes i32 v) (now (out .entry)) ⌝ }
+{
+    let n = bits_of(v, 2147483648);
+    put_u32(out, at, n);
 }
