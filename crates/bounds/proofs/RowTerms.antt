@@ -18,11 +18,12 @@ use Rattle.market.proofs.NetPrices.{rows-sum}
 use Rattle.market.proofs.Ranges.{CaseRanges}
 use Rattle.market.proofs.Sizes.{right-size}
 use Rattle.records.proofs.Places.{resources-is, zones-is, flowgates-is}
+use Rattle.limits.specs.Together.{limitsOf}
 use Rattle.prices.specs.Standing.{PricesStand}
 use Rattle.prices.proofs.Known.{case-ranges, flowgate-below, balance-size, flowgate-size}
 use Rattle.units.specs.Room.{ProductRoom}
 use Rattle.bounds.specs.Sizes.{RowRoom, SmallRequirements, SmallLimits}
-use Rattle.bounds.specs.Terms.{rowTerm, zoneTerms, flowgateTerm, limitTerms, limitsOf, zoneValue, limitValue}
+use Rattle.bounds.specs.Terms.{rowTerm, zoneTerms, flowgateTerm, limitTerms, zoneValue, limitValue}
 
 pub over-curves : (f : Curve → ℤ) → f operating +ℤ (f regulatingPlusSpinning +ℤ (f regulating +ℤ f shortTerm)) ≡ sumOf f curves
 unfolding sumOf

@@ -10,9 +10,9 @@ use Rattle.market.specs.declared.Step.{Step}
 use Rattle.market.specs.declared.OfferSteps.{OfferSteps}
 use Rattle.market.specs.declared.ZoneRequirements.{ZoneRequirements}
 use Rattle.records.specs.Ranged.{offerStep}
+use Rattle.limits.specs.declared.ResourceLimits.{ResourceLimits}
 use Rattle.nets.specs.Sizes.{mostPrice, SmallOffer}
 use Rattle.bounds.specs.Terms.{required}
-use Rattle.bounds.specs.declared.ResourceLimits.{ResourceLimits}
 use Rattle.bounds.specs.declared.ReserveBounds.{ReserveBounds}
 
 -- ---- how large they can be, in grains; widths and limits in kW

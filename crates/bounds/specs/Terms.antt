@@ -13,15 +13,14 @@ use Rattle.market.specs.declared.ReservePrices.{ReservePrices}
 use Rattle.market.specs.declared.ZoneRequirements.{ZoneRequirements}
 use Rattle.market.specs.Case.{Case, Resource, curves}
 use Rattle.market.specs.CaseFile.{caseOf}
-use Rattle.market.specs.Limits.{MAX, MIN, HI, LO}
 use Rattle.market.specs.UpperBounds.{serviceBound, regulation, contingency, onLineShortTerm, offLineShortTerm}
 use Rattle.market.specs.Rows.{Row, Zone, Flowgate, Limited, limits, rightSide}
 use Rattle.market.specs.Certificate.{certificateOf}
 use Rattle.market.specs.Cost.{Priced, pricedOf}
 use Rattle.market.specs.Bound.{lowest}
 use Rattle.market.specs.Records.{power}
+use Rattle.limits.specs.declared.ResourceLimits.{ResourceLimits}
 use Rattle.nets.specs.declared.Nets.{Nets}
-use Rattle.bounds.specs.declared.ResourceLimits.{ResourceLimits}
 use Rattle.bounds.specs.declared.ReserveBounds.{ReserveBounds}
 
 -- ---- of the bytes
@@ -47,9 +46,6 @@ abbrev pub leastTerms : List ℕ → List ℕ → ℕ → ℤ
 leastTerms b q i = sumOf (pricedTerm b q) (pricedOf i)
 
 -- ---- records
-unfoldable pub limitsOf : Resource → ResourceLimits
-limitsOf r = record { max = power (MAX r); min = power (MIN r); high = power (HI r); low = power (LO r) }
-
 unfoldable pub reserveBoundsOf : Case → Resource → ReserveBounds
 reserveBoundsOf c r =
     record {

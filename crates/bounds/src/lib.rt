@@ -20,7 +20,8 @@ ghost use Rattle.prices.specs.Standing.{PricesStand, Standing};
 ghost use Rattle.prices.specs.ZonePrices.{SmallPrices};
 ghost use Rattle.nets.specs.Sizes.{mostPrice, SmallNets, SmallLimitPrices};
 ghost use Rattle.bounds.specs.Sizes.{mostNet, mostZoneTerms, mostFlowgateTerm, mostLimitTerms, mostRowTerms, mostService, mostLeastTerms, mostCurveStep, mostPricedTerms, Figure, RowRoom, LeastRoom, SmallRequirements, SmallLimits, SmallBounds, SmallStep, SmallSteps};
-ghost use Rattle.bounds.specs.Terms.{rowTerm, pricedTerm, zoneTerms, flowgateTerm, limitTerms, leastTerms, limitsOf, reserveBoundsOf, zoneValue, limitValue, leastOf, stepBound, stepLeast, reservesLeast, curveStepLeast};
+ghost use Rattle.bounds.specs.Terms.{rowTerm, pricedTerm, zoneTerms, flowgateTerm, limitTerms, leastTerms, reserveBoundsOf, zoneValue, limitValue, leastOf, stepBound, stepLeast, reservesLeast, curveStepLeast};
+use limits::ResourceLimits;
 use market::CurveSteps;
 use market::Grains;
 use market::Kw;
@@ -133,26 +134,6 @@ fn flowgates_sum(b: &[u8], q: &[u8], r: usize, z: usize, f: usize) -> Grains
 
 // ---- of resources
 
-// MAX, MIN, HI and LO.
-pub struct ResourceLimits {
-    pub max: Kw,
-    pub min: Kw,
-    pub high: Kw,
-    pub low: Kw,
-}
-
-pub fn limits_of(resource: Resource) -> ResourceLimits
-    requires { ⌜ Ranged resource ⌝ }
-    ensures { λ l. ⌜ ((s : Figures) → resource ≡ recordOf s → l ≡ limitsOf s) ⌝ }
-{
-    ResourceLimits {
-        max: limits::max_limit(resource),
-        min: limits::min_limit(resource),
-        high: limits::high_limit(resource),
-        low: limits::low_limit(resource),
-    }
-}
-
 // The rows from below less those from above: MAX with reserves, MAX with short-term reserve, HI.
 fn limit_value(prices: LimitPrices, held: ResourceLimits) -> Grains
     requires { ⌜ SmallLimitPrices prices × SmallLimits held ⌝ }
@@ -175,7 +156,7 @@ fn limit_terms(b: &[u8], q: &[u8], r: usize, z: usize, f: usize, i: usize) -> Gr
 {
     let prices = entries::limit_prices_at(q, r, z, f, i);
     let resource = records::resource_at(b, z, i);
-    let held = limits_of(resource);
+    let held = limits::limits_of(resource);
     limit_value(prices, held)
 }
 

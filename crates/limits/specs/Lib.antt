@@ -1,2 +1,3 @@
 pub mod OnLine
 pub mod OffLine
+pub mod Together

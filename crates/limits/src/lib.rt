@@ -14,6 +14,7 @@ ghost use Rattle.market.specs.UpperBounds.{RAMP, SHARE, onLineBound, serviceBou
 ghost use Rattle.market.specs.Records.{power, recordOf, reserveTermsOf, offerStepsOf, curveStepsOf};
 ghost use Rattle.records.specs.Ranged.{UpTo, Ranged, RangedSteps, RangedTerms, RangedCurve};
 ghost use Rattle.limits.specs.OffLine.{offLineContingency};
+ghost use Rattle.limits.specs.Together.{limitsOf};
 ghost use Rattle.limits.specs.OnLine.{atLeast500, conventionalOnLine, intermittentOnLine, externalOnLine};
 use market::CurveSteps;
 use market::Kw;
@@ -264,6 +265,26 @@ pub fn low_limit(r: Resource) -> Kw
         return floor;
     }
     larger(floor, r.starts.self_schedule)
+}
+
+// MAX, MIN, HI and LO.
+pub struct ResourceLimits {
+    pub max: Kw,
+    pub min: Kw,
+    pub high: Kw,
+    pub low: Kw,
+}
+
+pub fn limits_of(r: Resource) -> ResourceLimits
+    requires { ⌜ Ranged r ⌝ }
+    ensures { λ l. ⌜ ((s : Figures) → r ≡ recordOf s → l ≡ limitsOf s) ⌝ }
+{
+    ResourceLimits {
+        max: max_limit(r),
+        min: min_limit(r),
+        high: high_limit(r),
+        low: low_limit(r),
+    }
 }
 
 // ---- what bounds a reserve

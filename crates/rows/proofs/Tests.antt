@@ -16,7 +16,8 @@ use Rattle.market.specs.InWords.{RowsInWords, kwOf, reserveOf, reserveInZone}
 use Rattle.market.specs.Outcome.{rowMet}
 use Rattle.market.specs.Records.{amountsOf, clearedOf, curveAmountsOf}
 use Rattle.market.proofs.RowSlacks.{rows-in-words}
-use Rattle.rows.specs.Tests.{shortTests, limitTests, ownLimitsOf}
+use Rattle.limits.specs.Together.{limitsOf}
+use Rattle.rows.specs.Tests.{shortTests, limitTests}
 
 -- a row 'at least' whose slack is b - a
 met : (a b : ℤ) {s : ℤ} → s ≡ b -ℤ a → leZ a b ≡ leZ (pos 0) s
@@ -58,8 +59,8 @@ module _ (c : Case) (k : Certificate) where
   flowgate-met n g e = rw e (met (sumOf (λ i. c .shiftFactor g i *ℤ kwOf x i energy) (upto (c .resources))) (pos 1000 *ℤ c .flowgateLimit g) (words .flowgate g))
 
   -- ---- a resource's own
-  pub limit-tests : (i : ℕ) → i < c .resources → limitTests (amountsOf x i) (ownLimitsOf (c .resource i)) ≡ map (rowMet c k) (map (Limited i) limits)
-  unfolding amountsOf ownLimitsOf
+  pub limit-tests : (i : ℕ) → i < c .resources → limitTests (amountsOf x i) (limitsOf (c .resource i)) ≡ map (rowMet c k) (map (Limited i) limits)
+  unfolding amountsOf limitsOf
   limit-tests i h =
       let e = kwOf x i energy in
       let g = kwOf x i regulation in

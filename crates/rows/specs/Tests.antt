@@ -7,16 +7,13 @@ use lib.Signed.{leZ}
 use Rattle.market.specs.declared.Amounts.{Amounts}
 use Rattle.market.specs.declared.CurveAmounts.{CurveAmounts}
 use Rattle.market.specs.declared.Refusal.the-variants.{RowBroken}
-use Rattle.market.specs.Case.{Resource}
 use Rattle.market.specs.CaseFile.{caseOf}
-use Rattle.market.specs.Limits.{MAX, MIN, HI, LO}
 use Rattle.market.specs.UpperBounds.{energy, Provided}
 use Rattle.market.specs.Rows.{Row}
 use Rattle.market.specs.Certificate.{certificateOf}
 use Rattle.market.specs.Refusals.{Finding, firstFailing}
 use Rattle.market.specs.Outcome.{rowMet}
-use Rattle.market.specs.Records.{power}
-use Rattle.rows.specs.declared.OwnLimits.{OwnLimits}
+use Rattle.limits.specs.declared.ResourceLimits.{ResourceLimits}
 
 -- the number of the first test that is false, counted from n, or 0 for none
 unfoldable pub firstFalse : ℕ → List Bool → ℕ
@@ -46,11 +43,8 @@ shortTests have need =
     ∷ leZ (need .«short_term» .0) (have .«short_term» .0)
     ∷ []
 
-unfoldable pub ownLimitsOf : Resource → OwnLimits
-ownLimitsOf s = record { max = power (MAX s); min = power (MIN s); high = power (HI s); low = power (LO s) }
-
 -- e+g+c ≤ MAX, e+s ≤ MAX, e-g ≥ MIN, e ≤ HI, e ≥ LO
-abbrev pub limitTests : Amounts → OwnLimits → List Bool
+abbrev pub limitTests : Amounts → ResourceLimits → List Bool
 limitTests a l =
     leZ (a .energy .0 +ℤ a .regulation .0 +ℤ a .contingency .0) (l .max .0)
     ∷ leZ (a .energy .0 +ℤ a .«on_line_short_term» .0) (l .max .0)

@@ -6,25 +6,24 @@ ghost use Prim.Native.Nat.{_+_, _*_, _<_};
 ghost use lib.IntN.{pos, _*ℤ_};
 ghost use Rattle.arith.specs.Sums.{sumOf, upto};
 ghost use Rattle.market.specs.declared.Refusal.the-variants.{RowBroken};
-ghost use Rattle.market.specs.Case.{Resource as Figures, curves};
+ghost use Rattle.market.specs.Case.{curves};
 ghost use Rattle.market.specs.CaseFile.{caseOf};
 ghost use Rattle.market.specs.UpperBounds.{energy};
 ghost use Rattle.market.specs.Rows.{Balance, Zone, Flowgate, Limited, limits, marketRows, zoneRows, flowgateRows, limitRows, rows};
 ghost use Rattle.market.specs.Certificate.{certificateOf};
 ghost use Rattle.market.specs.InWords.{kwOf};
-ghost use Rattle.market.specs.Records.{kw, recordOf, curveAmountsOf};
+ghost use Rattle.market.specs.Records.{kw, curveAmountsOf};
 ghost use Rattle.market.specs.Refusals.{foundAt, firstFailing};
 ghost use Rattle.market.specs.Outcome.{rowMet};
 ghost use Rattle.records.specs.Places.{ZoneIn};
-ghost use Rattle.records.specs.Ranged.{Ranged};
 ghost use Rattle.entries.specs.CertificateBytes.{CertificateBytes};
 ghost use Rattle.prices.specs.Standing.{Standing};
 ghost use Rattle.reserves.specs.Given.{SmallAmounts};
-ghost use Rattle.rows.specs.Tests.{firstFalse, shortTests, limitTests, ownLimitsOf, EnergyBounded, brokenFrom, Numbered};
+ghost use Rattle.rows.specs.Tests.{firstFalse, shortTests, limitTests, EnergyBounded, brokenFrom, Numbered};
+use limits::ResourceLimits;
 use market::Amounts;
 use market::CurveAmounts;
 use market::Kw;
-use market::Resource;
 
 // ---- row 1
 
@@ -181,28 +180,8 @@ fn flowgates_over(b: &[u8], q: &[u8], r: usize, z: usize, f: usize, first: u32) 
 
 // ---- each resource's own rows
 
-// MAX, MIN, HI and LO.
-pub struct OwnLimits {
-    pub max: Kw,
-    pub min: Kw,
-    pub high: Kw,
-    pub low: Kw,
-}
-
-fn own_limits(resource: Resource) -> OwnLimits
-    requires { ⌜ Ranged resource ⌝ }
-    ensures { λ l. ⌜ ((s : Figures) → resource ≡ recordOf s → l ≡ ownLimitsOf s) ⌝ }
-{
-    OwnLimits {
-        max: limits::max_limit(resource),
-        min: limits::min_limit(resource),
-        high: limits::high_limit(resource),
-        low: limits::low_limit(resource),
-    }
-}
-
 // The first of five rows, numbered from `first`, that amounts break: e+g+c ≤ MAX, e+s ≤ MAX, e-g ≥ MIN, e ≤ HI, e ≥ LO.
-fn first_outside(a: Amounts, l: OwnLimits, first: u32) -> u32
+fn first_outside(a: Amounts, l: ResourceLimits, first: u32) -> u32
     requires { ⌜ SmallAmounts a × Numbered 374 first ⌝ }
     ensures { λ n. ⌜ n ≡ firstFalse first (limitTests a l) ⌝ }
 {
@@ -234,7 +213,7 @@ fn resource_outside(b: &[u8], q: &[u8], r: usize, z: usize, f: usize, i: usize, 
     ensures { λ n. ⌜ foundAt RowBroken n ≡ brokenFrom (now (b .entry)) (now (q .entry)) first (map (Limited i) limits) ⌝ }
 {
     let resource = records::resource_at(b, z, i);
-    let own = own_limits(resource);
+    let own = limits::limits_of(resource);
     let a = entries::amounts_at(q, r, z, f, i);
     first_outside(a, own, first)
 }

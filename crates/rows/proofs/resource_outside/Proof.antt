@@ -9,7 +9,7 @@ use Rattle.market.specs.Records.{recordOf}
 use Rattle.records.proofs.Places.{resource-is}
 use Rattle.prices.proofs.Known.{resource-below}
 use Rattle.reserves.proofs.Known.{amounts-small}
-use Rattle.rows.specs.Tests.{ownLimitsOf}
+use Rattle.limits.specs.Together.{limitsOf}
 use Rattle.rows.proofs.Known.{resource-ranged}
 use Rattle.rows.proofs.Search.{first-false}
 use Rattle.rows.proofs.Tests.{limit-tests}
@@ -17,19 +17,19 @@ use borrow.Author.Needs.{needs}
 use Rattle.rows.proofs.resource_outside.Statement.{statement}
 use Rattle.rows.proofs.resource_outside.Tie as tie
 
-own-limits-requires : tie.Need-own-limits-requires
-own-limits-requires c κs = let s = c .before .before .before in rw (c .resource-at .ensures) (resource-ranged (s .pre .0) (s .args .i) (s .pre .1 .0))
+limits-of-requires : tie.Need-limits-of-requires
+limits-of-requires c κs = let s = c .before .before .before in rw (c .resource-at .ensures) (resource-ranged (s .pre .0) (s .args .i) (s .pre .1 .0))
 
 first-outside-requires : tie.Need-first-outside-requires
 first-outside-requires c κs = let s = c .before .before .before .before .before in rw (c .amounts-at .ensures) (amounts-small (s .pre .0) (s .args .i) (s .pre .1 .0), s .pre .1 .1)
 
 -- its limits are the case's
-own-is : (c : tie.After-own-limits) →
+own-is : (c : tie.After-limits-of) →
     let s = c .before .before .before .before in
-    c .own-limits .result ≡ ownLimitsOf ((caseOf (s .args .b .now)) .resource (s .args .i))
+    c .limits-of .result ≡ limitsOf ((caseOf (s .args .b .now)) .resource (s .args .i))
 own-is c =
     let s = c .before .before .before .before in
-    c .own-limits .ensures ((caseOf (s .args .b .now)) .resource (s .args .i)) (c .before .resource-at .ensures ∙ ap recordOf (resource-is (s .pre .0 .prices .case-bytes) (s .args .i)))
+    c .limits-of .ensures ((caseOf (s .args .b .now)) .resource (s .args .i)) (c .before .resource-at .ensures ∙ ap recordOf (resource-is (s .pre .0 .prices .case-bytes) (s .args .i)))
 
 returns : tie.Need-returns
 returns c =
@@ -42,7 +42,7 @@ resource-outside-spec =
     tie.close
     (tie.spec
     (λ c κs. search needs)
-    own-limits-requires
+    limits-of-requires
     (λ c κs. search needs)
     first-outside-requires
     returns)

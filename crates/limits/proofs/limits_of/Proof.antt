@@ -1,7 +1,8 @@
-use Rattle.bounds.specs.Terms.{limitsOf}
+-- `limits::limits_of` meets its contract: limit by limit. Assumes nothing.
 use borrow.Author.Needs.{needs}
-use Rattle.bounds.proofs.limits_of.Statement.{statement}
-use Rattle.bounds.proofs.limits_of.Tie as tie
+use Rattle.limits.specs.Together.{limitsOf}
+use Rattle.limits.proofs.limits_of.Statement.{statement}
+use Rattle.limits.proofs.limits_of.Tie as tie
 
 returns : tie.Need-returns
 unfolding limitsOf
