@@ -67,7 +67,7 @@ unfolding widthOf
 widths-same w v zero h = refl
 widths-same w v (suc n) h = omega (arith, widths-same w v n (λ j l. h j (omega arith)), h n (omega arith))
 
-filled-same : (w v : ℕ → ℕ) (x n : ℕ) → ((j : ℕ) → j < n → w j ≡ v j) → (j : ℕ) → j < n → filled w x j ≡ filled v x j
+pub filled-same : (w v : ℕ → ℕ) (x n : ℕ) → ((j : ℕ) → j < n → w j ≡ v j) → (j : ℕ) → j < n → filled w x j ≡ filled v x j
 unfolding filled
 filled-same w v x n h j l = rw (h j l, widths-same w v j (λ k m. h k (omega arith)))
 

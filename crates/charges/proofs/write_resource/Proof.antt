@@ -1,0 +1,95 @@
+-- `charges::write_resource` meets its contract.
+use mathlib.Core.List.{List, _++_, map}
+use mathlib.Core.Path.{_≡_, refl, ap, _∙_}
+use Prim.Native.Nat.{_≤_}
+use native.Mathlib.Omega.{arith}
+use lib.ListN.{length, drop}
+use lib.IntN.{ℤ, natAbs}
+use borrow.Author.Needs.{needs}
+use Rattle.arith.specs.Sums.{upto}
+use Rattle.market.specs.Records.{recordOf}
+use Rattle.market.specs.CaseFile.{caseOf}
+use Rattle.records.proofs.Places.{head-in, record-is}
+use Rattle.costs.proofs.Known.{resource-known}
+use Rattle.delivery.proofs.Parts.{rest-length, write-on}
+use Rattle.charges.specs.Terms.{energyCharge, reserveCharges}
+use Rattle.charges.proofs.Families.{numbers-count}
+use Rattle.charges.proofs.Known.{nets-fit, steps-fit, reserves-fit, bounds-fit, resource-listed}
+use Rattle.charges.proofs.write_resource.Statement.{statement}
+use Rattle.charges.proofs.write_resource.Tie as tie
+
+-- the record that is read is the case's
+resource : (c : tie.After-resource-at) →
+    let s = c .before .before .before .before in
+    c .resource-at .result ≡ recordOf (caseOf (s .args .b .now) .resource (s .args .i))
+resource c = let s = c .before .before .before .before in record-is (s .pre .0 .0 .prices .case-bytes) (s .args .i) (c .resource-at .ensures)
+
+-- behind the steps there is room for the reserves
+room : (c : tie.After-write-steps) → 14 ≤ length (c .write-steps .last .1 .1 .1 .1 .0)
+room c = let s = c .before .before .before .before .before .before .before .before .before in omega (arith, c .write-steps .kept .1 .1 .1 .1 .0, s .pre .1)
+
+behind : (c : tie.After-write-steps) → 10 ≤ length (c .write-steps .last .1 .1 .1 .1 .0)
+behind c = omega (arith, room c)
+
+reserve-bounds-requires : tie.Need-reserve-bounds-requires
+reserve-bounds-requires c κs =
+    let s = c .before .before .before .before .before .before in
+    let p = s .pre .0 .0 .prices in
+    ((head-in (p .case-bytes), p .valid), rw (resource (c .before .before)) (resource-known (s .pre .0 .0) (s .args .i) (s .pre .0 .1)))
+
+write-steps-requires : tie.Need-write-steps-requires
+write-steps-requires c κs =
+    let s = c .before .before .before .before .before .before .before .before in
+    let p = s .pre .0 .0 in
+    let l = s .pre .0 .1 in
+    let room : 10 ≤ length (s .args .out .now) = omega arith in
+    ((nets-fit p l (c .before .before .before .before .before .nets-at .ensures), steps-fit p l (resource (c .before .before .before .before)) (c .before .before .before .amounts-at .ensures)), room)
+
+sub-write-reserves : tie.Need-sub-write-reserves
+sub-write-reserves c = behind (c .before)
+
+part-write-reserves-start : tie.Need-part-write-reserves-start
+part-write-reserves-start c = behind (c .before)
+
+write-reserves-requires : tie.Need-write-reserves-requires
+write-reserves-requires c κs =
+    let s = c .before .before .before .before .before .before .before .before .before .before .before in
+    let p = s .pre .0 .0 in
+    let l = s .pre .0 .1 in (
+      (nets-fit p l (c .before .before .before .before .before .before .before .before .nets-at .ensures), (reserves-fit p l (c .before .before .before .before .before .before .amounts-at .ensures), bounds-fit p l (c .before .before .before .before .reserve-bounds .ensures (caseOf (s .args .b .now) .resource (s .args .i)) (resource (c .before .before .before .before .before .before .before))))),
+      rw (rest-length 10 (c .before .before .write-steps .last .1 .1 .1 .1 .0)) (omega (arith, room (c .before .before))),
+    )
+
+returns : tie.Need-returns
+returns c =
+    let s = c .before .before .before .before .before .before .before .before .before .before .before .before .before in
+    let n = c .before .before .before .before .before .before .before .before .before .before .nets-at in
+    let a = c .before .before .before .before .before .before .before .before .amounts-at in
+    let on = c .before .before .before .before .before .before .before .on-line in
+    let u = c .before .before .before .before .before .before .reserve-bounds in
+    let v = c .before .before .before .before .before .before .before .before .before .resource-at .result in
+    let ev = resource (c .before .before .before .before .before .before .before .before .before) in
+    let w = c .before .before .before .before .write-steps in
+    let x = c .before .write-reserves in
+    let figures = caseOf (s .args .b .now) .resource (s .args .i) in
+    let o = s .args .out .now in
+    let g = energyCharge (n .result) (on .result) (v .steps) (natAbs (a .result .energy .0)) in
+    write-on (map g (upto 10)) (reserveCharges (n .result) (a .result) (u .result)) o (w .last .1 .1 .1 .1 .0) (x .last .1 .1 .1 .0) 10 4 10 (numbers-count g 10) refl (omega arith) (w .ensures) (x .ensures)
+    ∙ ap (λ (l : List ℤ). l ++ drop 14 o) (resource-listed (s .pre .0 .0) (s .pre .0 .1) (n .ensures) (on .ensures figures ev) ev (a .ensures) (u .ensures figures ev))
+
+pub write-resource-spec : {M : Type 1} → statement M
+write-resource-spec =
+    tie.close
+    (tie.spec
+    (λ c κs. search needs)
+    (λ c κs. search needs)
+    (λ c κs. search needs)
+    (λ c κs. search needs)
+    reserve-bounds-requires
+    write-steps-requires
+    sub-write-reserves
+    part-write-reserves-start
+    (λ c. search needs)
+    write-reserves-requires
+    (λ c. search needs)
+    returns)

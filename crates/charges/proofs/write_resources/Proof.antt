@@ -1,0 +1,65 @@
+-- `charges::write_resources` meets its contract.
+-- The loop's invariant: the charges of the resources passed stand in front, fourteen each, the rest is untouched; the measure is the resources to go.
+use mathlib.Core.Path.{_≡_, _∙_}
+use mathlib.Core.List.{_++_}
+use Prim.Native.Nat.{_+_, _*_, _-_, _≤_}
+use native.Mathlib.Omega.{arith}
+use lib.ListN.{length, drop}
+use borrow.Author.Needs.{needs}
+use borrow.Rule.Slice.PartMut.{same-len-mid}
+use Rattle.arith.proofs.Lists.{across-upto}
+use Rattle.arith.specs.Sums.{upto, across}
+use Rattle.delivery.proofs.Parts.{rest-length, write-on}
+use Rattle.charges.specs.Terms.{resourceCharges}
+use Rattle.charges.proofs.Known.{resources-count}
+use Rattle.charges.proofs.write_resources.Statement.{statement}
+use Rattle.charges.proofs.write_resources.Tie as tie
+
+abbrev Inv-loop : tie.InvT-loop
+Inv-loop b q r z f out₀ i₀ at₀ out i at = (i ≤ r) × (at ≡ i * 14) × (length out ≡ length out₀) × (out ≡ across (resourceCharges b q) (upto i) ++ drop (i * 14) out₀)
+
+abbrev μ-loop : tie.MeasureT-loop
+μ-loop b q r z f out₀ i₀ at₀ out i at = r - i
+
+loop-holds : tie.Need-loop-holds Inv-loop μ-loop
+unfolding upto across
+loop-holds c = search needs
+
+write-resource-requires : tie.Need-write-resource-requires Inv-loop μ-loop
+write-resource-requires c κs = let s = c .before .before .before .before .before in ((s .pre .0, omega arith), rw (rest-length (c .before .before .loop .at) (c .before .before .loop .out)) (omega arith))
+
+loop-again : tie.Need-loop-again Inv-loop μ-loop
+loop-again c =
+    let s = c .before .before .before .before .before .before .before in
+    let k = c .before .before .before .before .loop in
+    let g = resourceCharges (s .args .b .now) (s .args .q .now) in
+    let last = c .before .write-resource .last .1 .1 .1 .1 .1 .1 .0 in
+    let e : k .i * 14 + 14 ≡ (k .i + 1) * 14 = omega arith in (
+      omega arith,
+      omega arith,
+      same-len-mid (k .at) (length (k .out) - k .at) (k .out) last (c .before .write-resource .kept .1 .1 .1 .1 .1 .1 .0) ∙ k .inv .2,
+      rw (across-upto g (k .i), ← e)
+          (write-on (across g (upto (k .i))) (g (k .i)) (s .args .out .now) (k .out) last (k .i * 14) 14 (k .at) (resources-count (s .args .b .now) (s .args .q .now) (k .i)) (omega arith) (omega arith) (k .inv .3) (c .before .write-resource .ensures)),
+    )
+
+returns : tie.Need-returns Inv-loop μ-loop
+returns c = let s = c .before .before .before .before in let e : c .before .loop .i ≡ s .args .r = omega arith in rw (← e) (c .before .loop .inv .3)
+
+pub write-resources-spec : {M : Type 1} → statement M
+write-resources-spec =
+    tie.close
+    (tie.spec
+    Inv-loop
+    μ-loop
+    loop-holds
+    (λ c. search needs)
+    (λ c. search needs)
+    (λ c. search needs)
+    (λ c. search needs)
+    write-resource-requires
+    (λ c. search needs)
+    (λ c. search needs)
+    (λ c. search needs)
+    loop-again
+    (λ c. search needs)
+    returns)

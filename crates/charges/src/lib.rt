@@ -1,0 +1,226 @@
+// The charges of an accepted certificate, written into a lent buffer in charge order (01, 'Certificate, cost, bound,
+// charges'). Of what is priced: for each resource ten energy steps, g, c, s and o, from the resource's own place on; then
+// sixteen curve steps. What stands beyond them stays as it was.
+ghost use mathlib.Core.Path.{_≡_};
+ghost use mathlib.Core.List.{map, _++_};
+ghost use Prim.Native.Nat.{_+_, _*_, _<_, _≤_};
+ghost use lib.IntN.{natAbs};
+ghost use lib.ListN.{length, drop};
+ghost use Rattle.arith.specs.Sums.{upto, across};
+ghost use Rattle.market.specs.Case.{Curve, curves, curveNumber};
+ghost use Rattle.market.specs.CaseFile.{caseOf};
+ghost use Rattle.market.specs.Certificate.{certificateOf};
+ghost use Rattle.market.specs.Cost.{curvePriced, priced};
+ghost use Rattle.market.specs.Charges.{pricedCharge, charges, chargeCount};
+ghost use Rattle.market.specs.Records.{grains, curveStepsOf};
+ghost use Rattle.records.specs.Places.{CurveIn};
+ghost use Rattle.prices.specs.Standing.{Standing};
+ghost use Rattle.nets.specs.Sizes.{SmallNets};
+ghost use Rattle.bounds.specs.Sizes.{SmallBounds};
+ghost use Rattle.charges.specs.Sizes.{ChargeRoom, StepRoom, StepsRoom, SmallReserves, CurveStepRoom, CurveRoom, ClearedRoom};
+ghost use Rattle.charges.specs.Terms.{chargeIn, resourceCharges, chargeOf, stepCharge, energyCharge, reserveCharges, curveStepCharge, curveCharge, clearedCurve, curveCharges};
+use bounds::ReserveBounds;
+use market::Amounts;
+use market::CurveSteps;
+use market::Grains;
+use market::Kw;
+use market::Millicents;
+use market::OfferSteps;
+use market::Step;
+use nets::Nets;
+
+// What an amount adds at its net price, beyond the least that it could add up to its upper bound.
+fn quantity_charge(net: Millicents, amount: Kw, upper: Kw) -> Grains
+    requires { ⌜ ChargeRoom net amount upper ⌝ }
+    ensures { λ g. ⌜ g ≡ grains (chargeOf (net .0) (amount .0) (upper .0)) ⌝ }
+{
+    let added = units::value(net, amount);
+    let least = bounds::least_of(net, upper);
+    units::grains_difference(added, least)
+}
+
+// ---- a resource
+
+// Of an energy step, by what fills it.
+fn step_charge(prices: Nets, on: bool, step: Step, part: Kw) -> Grains
+    requires { ⌜ SmallNets prices × StepRoom step part ⌝ }
+    ensures { λ g. ⌜ g ≡ grains (stepCharge prices on step (part .0)) ⌝ }
+{
+    let net = nets::step_net(prices, step.price);
+    let upper = bounds::step_bound(on, step.width);
+    quantity_charge(net, part, upper)
+}
+
+// The ten energy steps, filled in order.
+fn write_steps(prices: Nets, on: bool, steps: OfferSteps, energy: Kw, out: &mut [i64])
+    requires { ⌜ (SmallNets prices × StepsRoom steps energy) × (10 ≤ length (now out)) ⌝ }
+    ensures { λ _. ⌜ now (out .exit) ≡ map (energyCharge prices on steps (natAbs (energy .0))) (upto 10) ++ drop 10 (now (out .entry)) ⌝ }
+{
+    let mut left = energy;
+    let mut j: usize = 0;
+    while j < 10 {
+        let step = steps.of[j];
+        let filled = costs::fill(left, step.width);
+        let charge = step_charge(prices, on, step, filled.part);
+        let number = charge.0;
+        out[j] = number;
+        left = filled.left;
+        j += 1;
+    }
+}
+
+// g, c, s and o.
+fn write_reserves(prices: Nets, amounts: Amounts, uppers: ReserveBounds, out: &mut [i64])
+    requires { ⌜ (SmallNets prices × (SmallReserves amounts × SmallBounds uppers)) × (4 ≤ length (now out)) ⌝ }
+    ensures { λ _. ⌜ now (out .exit) ≡ reserveCharges prices amounts uppers ++ drop 4 (now (out .entry)) ⌝ }
+{
+    let regulation = quantity_charge(prices.regulation, amounts.regulation, uppers.regulation);
+    let contingency = quantity_charge(prices.contingency, amounts.contingency, uppers.contingency);
+    let on_line = quantity_charge(
+        prices.on_line_short_term,
+        amounts.on_line_short_term,
+        uppers.on_line_short_term,
+    );
+    let off_line = quantity_charge(
+        prices.off_line_short_term,
+        amounts.off_line_short_term,
+        uppers.off_line_short_term,
+    );
+    let first = regulation.0;
+    let second = contingency.0;
+    let third = on_line.0;
+    let fourth = off_line.0;
+    out[0] = first;
+    out[1] = second;
+    out[2] = third;
+    out[3] = fourth;
+}
+
+// The fourteen charges of resource i.
+fn write_resource(b: &[u8], q: &[u8], r: usize, z: usize, f: usize, i: usize, out: &mut [i64])
+    requires { ⌜ (Standing (now b) (now q) r z f × (i < r)) × (14 ≤ length (now out)) ⌝ }
+    ensures { λ _. ⌜ now (out .exit) ≡ resourceCharges (now (b .entry)) (now (q .entry)) i ++ drop 14 (now (out .entry)) ⌝ }
+{
+    let prices = nets::nets_at(b, q, r, z, f, i);
+    let resource = records::resource_at(b, z, i);
+    let amounts = entries::amounts_at(q, r, z, f, i);
+    let on = limits::on_line(resource);
+    let uppers = bounds::reserve_bounds(b, resource);
+    write_steps(prices, on, resource.steps, amounts.energy, out);
+    write_reserves(prices, amounts, uppers, &mut out[10..]);
+}
+
+// Each resource's charges, from its own place on.
+fn write_resources(b: &[u8], q: &[u8], r: usize, z: usize, f: usize, out: &mut [i64])
+    requires { ⌜ Standing (now b) (now q) r z f × (r * 14 ≤ length (now out)) ⌝ }
+    ensures { λ _. ⌜ now (out .exit) ≡ across (resourceCharges (now (b .entry)) (now (q .entry))) (upto r) ++ drop (r * 14) (now (out .entry)) ⌝ }
+{
+    let mut i: usize = 0;
+    let mut at: usize = 0;
+    while i < r {
+        write_resource(b, q, r, z, f, i, &mut out[at..]);
+        at += 14;
+        i += 1;
+    }
+}
+
+// ---- the demand curves
+
+// Of a step of a curve whose market row has the price, by what fills it.
+fn curve_step_charge(price: Millicents, step: Step, part: Kw) -> Grains
+    requires { ⌜ CurveStepRoom price step part ⌝ }
+    ensures { λ g. ⌜ g ≡ grains (curveStepCharge price step (part .0)) ⌝ }
+{
+    let net = nets::curve_net(price, step.price);
+    quantity_charge(net, part, step.width)
+}
+
+// The four steps of a curve, filled in order.
+fn write_curve(price: Millicents, curve: CurveSteps, cleared: Kw, out: &mut [i64])
+    requires { ⌜ CurveRoom price curve cleared × (4 ≤ length (now out)) ⌝ }
+    ensures { λ _. ⌜ now (out .exit) ≡ map (curveCharge price curve (natAbs (cleared .0))) (upto 4) ++ drop 4 (now (out .entry)) ⌝ }
+{
+    let mut left = cleared;
+    let mut j: usize = 0;
+    while j < 4 {
+        let step = curve.of[j];
+        let filled = costs::fill(left, step.width);
+        let charge = curve_step_charge(price, step, filled.part);
+        let number = charge.0;
+        out[j] = number;
+        left = filled.left;
+        j += 1;
+    }
+}
+
+// A demand curve, with the price of its market row and its cleared quantity.
+struct ClearedCurve {
+    price: Millicents,
+    steps: CurveSteps,
+    cleared: Kw,
+}
+
+// The curve of number k, with these.
+fn cleared_curve(b: &[u8], k: usize, price: Millicents, cleared: Kw) -> ClearedCurve
+    requires { ⌜ CurveIn (now b) k ⌝ }
+    ensures { λ v. ⌜ ((c : Curve) → curveNumber c ≡ k → v ≡ clearedCurve price (curveStepsOf (caseOf (now (b .entry))) c) cleared) ⌝ }
+{
+    let steps = records::curve_at(b, k);
+    ClearedCurve {
+        price: price,
+        steps: steps,
+        cleared: cleared,
+    }
+}
+
+// Two curves, one behind the other.
+fn write_pair(first: ClearedCurve, second: ClearedCurve, out: &mut [i64])
+    requires { ⌜ (ClearedRoom first × ClearedRoom second) × (8 ≤ length (now out)) ⌝ }
+    ensures { λ _. ⌜ now (out .exit) ≡ (curveCharges first ++ curveCharges second) ++ drop 8 (now (out .entry)) ⌝ }
+{
+    write_curve(first.price, first.steps, first.cleared, out);
+    write_curve(second.price, second.steps, second.cleared, &mut out[4..]);
+}
+
+// The four curves in order.
+fn write_curves(b: &[u8], q: &[u8], r: usize, z: usize, f: usize, out: &mut [i64])
+    requires { ⌜ Standing (now b) (now q) r z f × (16 ≤ length (now out)) ⌝ }
+    ensures { λ _. ⌜ now (out .exit) ≡ map (chargeIn (now (b .entry)) (now (q .entry))) (across curvePriced curves) ++ drop 16 (now (out .entry)) ⌝ }
+{
+    let prices = entries::market_prices(q, r, z, f);
+    let cleared = entries::cleared(q, r, z, f);
+    let operating = cleared_curve(b, 0, prices.operating, cleared.operating);
+    let both = cleared_curve(
+        b,
+        1,
+        prices.regulating_plus_spinning,
+        cleared.regulating_plus_spinning,
+    );
+    let regulating = cleared_curve(b, 2, prices.regulating, cleared.regulating);
+    let short_term = cleared_curve(b, 3, prices.short_term, cleared.short_term);
+    write_pair(operating, both, out);
+    write_pair(regulating, short_term, &mut out[8..]);
+}
+
+// ---- all that is priced
+
+pub fn write_priced_charges(b: &[u8], q: &[u8], r: usize, z: usize, f: usize, out: &mut [i64])
+    requires { ⌜ Standing (now b) (now q) r z f × (r * 14 + 16 ≤ length (now out)) ⌝ }
+    ensures { λ _. ⌜ now (out .exit) ≡ map (pricedCharge (caseOf (now (b .entry))) (certificateOf (now (q .entry)) .amount) (certificateOf (now (q .entry)) .price)) (priced (caseOf (now (b .entry)))) ++ drop (r * 14 + 16) (now (out .entry)) ⌝ }
+{
+    write_resources(b, q, r, z, f, out);
+    let at = r * 14;
+    write_curves(b, q, r, z, f, &mut out[at..]);
+}
+
+// ---- all charges
+
+// The rows', then those of what is priced.
+pub fn write_charges(b: &[u8], q: &[u8], r: usize, z: usize, f: usize, out: &mut [i64])
+    requires { ⌜ Standing (now b) (now q) r z f × (21 + 4 * z + f + 19 * r ≤ length (now out)) ⌝ }
+    ensures { λ _. ⌜ now (out .exit) ≡ charges (caseOf (now (b .entry))) (certificateOf (now (q .entry)) .amount) (certificateOf (now (q .entry)) .price) ++ drop (chargeCount (caseOf (now (b .entry)))) (now (out .entry)) ⌝ }
+{
+    row_charges::write_row_charges(b, q, r, z, f, out);
+    let at = 5 + z * 4 + f + r * 5;
+    write_priced_charges(b, q, r, z, f, &mut out[at..]);
+}

@@ -1,0 +1,170 @@
+-- What the records of a case and of a certificate make are the charges of its rows, family by family, and they fit. The
+-- numbers n are a case's resources by the code's count.
+use mathlib.Core.Path.{_≡_, sym, ap}
+use mathlib.Core.List.{[], _∷_, map}
+use Prim.Native.Nat.{ℕ, _+_, _<_, _≤_}
+use native.Mathlib.Omega.{arith}
+use lib.IntN.{ℤ, pos, natAbs, _+ℤ_, _-ℤ_, _*ℤ_}
+use Rattle.arith.specs.Sums.{sumOf, upto}
+use Rattle.arith.proofs.Linear.{sorted, count}
+use Rattle.arith.proofs.Magnitudes.{abs-add, abs-sub, abs-neg, abs-mul}
+use Rattle.market.specs.Case.{Case, Curve, operating, regulatingPlusSpinning, regulating, shortTerm, curves}
+use Rattle.market.specs.Limits.{MAX, HI}
+use Rattle.market.specs.UpperBounds.{energy, Cleared, Schedule}
+use Rattle.market.specs.Rows.{Row, Balance, Market, Zone, Flowgate, Limited, maxWithReserve, maxWithShortTerm, minimum, high, low, limits, marketRows, rightSide, slack, Bounded}
+use Rattle.market.specs.Certificate.{Prices, highestPrice}
+use Rattle.market.specs.Charges.{rowCharge}
+use Rattle.market.specs.InWords.{RowsInWords, kwOf, reserveOf, reserveInZone}
+use Rattle.market.specs.Records.{amountsOf, limitPricesOf, clearedOf, curveAmountsOf, reservePricesOf}
+use Rattle.market.proofs.Families.{RowOf}
+use Rattle.market.proofs.Ranges.{CaseRanges, PriceRanges}
+use Rattle.market.proofs.RowSlacks.{rows-in-words}
+use Rattle.market.proofs.Sizes.{right-size}
+use Rattle.market.proofs.SumsFit.{mostSlack, amount-of, slack-size, row-charge-size}
+use Rattle.units.specs.Room.{ProductRoom}
+use Rattle.limits.specs.Together.{limitsOf}
+use Rattle.reserves.specs.Given.{SmallAmounts}
+use Rattle.row_charges.specs.Families.{ChargeRoom, FourRoom, FiveRoom, fourCharges, fiveCharges}
+
+-- ---- figures
+price-figure : (r : Row) → highestPrice r ≤ 400000000
+price-figure Balance = omega arith
+price-figure (Market k) = omega arith
+price-figure (Zone z k) = omega arith
+price-figure (Flowgate g) = omega arith
+price-figure (Limited i l) = omega arith
+
+slack-figure : (r : Row) → mostSlack r ≤ 896000000000
+slack-figure Balance = omega arith
+slack-figure (Market k) = omega arith
+slack-figure (Zone z k) = omega arith
+slack-figure (Flowgate g) = omega arith
+slack-figure (Limited i l) = omega arith
+
+-- a side of a difference is no larger than the difference and the other side
+left-most : (a b : ℤ) → natAbs a ≤ natAbs (a -ℤ b) + natAbs b
+left-most a b = omega (arith, ap natAbs (back a b), abs-add (a -ℤ b) b)
+  where
+    back : (a b : ℤ) → a ≡ a -ℤ b +ℤ b
+    back a b = simp sorted (simp count (omega arith))
+
+right-most : (a b : ℤ) → natAbs b ≤ natAbs (a -ℤ b) + natAbs a
+right-most a b = omega (arith, ap natAbs (back a b), abs-sub a (a -ℤ b))
+  where
+    back : (a b : ℤ) → b ≡ a -ℤ (a -ℤ b)
+    back a b = simp sorted (simp count (omega arith))
+
+-- a factor of one
+pub by-one : (v : ℤ) → v *ℤ pos 1 ≡ v
+by-one v = simp sorted (simp count (omega arith))
+
+module _ (c : Case) (x : Schedule) (y : Prices) where
+  words : RowsInWords c x
+  words = rows-in-words c x
+
+  -- ---- charges
+  charge-by : (r : Row) {v : ℤ} → slack c x r ≡ v → y r *ℤ v ≡ rowCharge c x y r
+  unfolding rowCharge
+  charge-by r e = ap (λ (t : ℤ). y r *ℤ t) (sym e)
+
+  pub balance-charge : (n : ℕ) → n ≡ c .resources → y Balance *ℤ (sumOf (λ i. kwOf x i energy) (upto n) -ℤ pos (c .demand)) ≡ rowCharge c x y Balance
+  balance-charge n e = rw e (charge-by Balance (words .balance))
+
+  pub flowgate-charge : (n g : ℕ) → n ≡ c .resources →
+      y (Flowgate g) *ℤ (pos 1000 *ℤ c .flowgateLimit g -ℤ sumOf (λ i. c .shiftFactor g i *ℤ kwOf x i energy) (upto n)) ≡ rowCharge c x y (Flowgate g)
+  flowgate-charge n g e = rw e (charge-by (Flowgate g) (words .flowgate g))
+
+  -- four rows that have more than they need by their slacks
+  four-charges : (row : Curve → Row) (have need : Curve → ℤ) → ((k : Curve) → slack c x (row k) ≡ have k -ℤ need k) →
+      fourCharges (reservePricesOf y row) (curveAmountsOf have) (curveAmountsOf need) ≡ map (rowCharge c x y) (map row curves)
+  unfolding reservePricesOf
+  four-charges row have need e =
+      λ j.
+      charge-by (row operating) (e operating) j
+      ∷ charge-by (row regulatingPlusSpinning) (e regulatingPlusSpinning) j
+      ∷ charge-by (row regulating) (e regulating) j
+      ∷ charge-by (row shortTerm) (e shortTerm) j
+      ∷ []
+
+  pub market-charges : (n : ℕ) → n ≡ c .resources → fourCharges (reservePricesOf y Market) (curveAmountsOf (λ k. sumOf (reserveOf c x k) (upto n))) (clearedOf x) ≡ map (rowCharge c x y) marketRows
+  unfolding clearedOf
+  market-charges n e = rw e (four-charges Market (λ k. sumOf (reserveOf c x k) (upto (c .resources))) (λ k. pos (x (Cleared k))) (words .market))
+
+  pub zone-charges : (n z : ℕ) → n ≡ c .resources →
+      fourCharges (reservePricesOf y (Zone z)) (curveAmountsOf (λ k. sumOf (reserveInZone c x z k) (upto n))) (curveAmountsOf (λ k. pos (c .zoneRequirement z k))) ≡ map (rowCharge c x y) (map (Zone z) curves)
+  zone-charges n z e = rw e (four-charges (Zone z) (λ k. sumOf (reserveInZone c x z k) (upto (c .resources))) (λ k. pos (c .zoneRequirement z k)) (words .zone z))
+
+  pub limit-charges : (i : ℕ) → i < c .resources → fiveCharges (limitPricesOf y i) (amountsOf x i) (limitsOf (c .resource i)) ≡ map (rowCharge c x y) (map (Limited i) limits)
+  unfolding limitPricesOf amountsOf limitsOf
+  limit-charges i n =
+      λ j.
+      charge-by (Limited i maxWithReserve) (words .below-max i n) j
+      ∷ charge-by (Limited i maxWithShortTerm) (words .below-max-short-term i n) j
+      ∷ charge-by (Limited i minimum) (words .above-min i n) j
+      ∷ charge-by (Limited i high) (words .below-high i n) j
+      ∷ charge-by (Limited i low) (words .above-low i n) j
+      ∷ []
+
+  -- ---- that they fit
+  module _ (h : CaseRanges c) (p : PriceRanges c y) (b : Bounded c x) where
+    product-room : (r : Row) → RowOf c r → ProductRoom (y r) (slack c x r)
+    unfolding rowCharge
+    product-room r m =
+        record {
+          left = omega (arith, p .price r m .le, price-figure r);
+          right = omega (arith, slack-size c h x b r m .le, slack-figure r);
+          product = omega (arith, abs-mul (y r) (slack c x r), row-charge-size c h y p x b r m .le);
+        }
+
+    -- a row whose right, or left, of two sides is known to be small
+    module _ (r : Row) (m : RowOf c r) (left right : ℤ) (e : slack c x r ≡ left -ℤ right) where
+      difference-small : natAbs (left -ℤ right) ≤ 896000000000
+      difference-small = omega (arith, ap natAbs e, slack-size c h x b r m .le, slack-figure r)
+
+      room-by-right : natAbs right ≤ 128000000 → ChargeRoom (y r) left right
+      room-by-right s = record { sides = omega (arith, difference-small, left-most left right); product = rw e at (product-room r m) }
+
+      room-by-left : natAbs left ≤ 20000000000 → ChargeRoom (y r) left right
+      room-by-left s = record { sides = omega (arith, difference-small, right-most left right); product = rw e at (product-room r m) }
+
+    pub balance-room : (n : ℕ) → n ≡ c .resources → ChargeRoom (y Balance) (sumOf (λ i. kwOf x i energy) (upto n)) (pos (c .demand))
+    balance-room n e = rw e (room-by-right Balance tt _ _ (words .balance) (h .demand-to))
+
+    pub flowgate-room : (n g : ℕ) → n ≡ c .resources → g < c .flowgates →
+        ChargeRoom (y (Flowgate g)) (pos 1000 *ℤ c .flowgateLimit g) (sumOf (λ i. c .shiftFactor g i *ℤ kwOf x i energy) (upto n))
+    flowgate-room n g e m = rw e (room-by-left (Flowgate g) m _ _ (words .flowgate g) (omega (arith, abs-mul (pos 1000) (c .flowgateLimit g), h .flowgate-limit g m .le)))
+
+    four-room : (row : Curve → Row) (have need : Curve → ℤ) → ((k : Curve) → ChargeRoom (y (row k)) (have k) (need k)) →
+        FourRoom (reservePricesOf y row) (curveAmountsOf have) (curveAmountsOf need)
+    unfolding reservePricesOf
+    four-room row have need s =
+        record { operating = s operating; regulating-plus-spinning = s regulatingPlusSpinning; regulating = s regulating; short-term = s shortTerm }
+
+    pub market-room : (n : ℕ) → n ≡ c .resources → FourRoom (reservePricesOf y Market) (curveAmountsOf (λ k. sumOf (reserveOf c x k) (upto n))) (clearedOf x)
+    unfolding clearedOf
+    market-room n e =
+        rw e
+        (four-room Market (λ k. sumOf (reserveOf c x k) (upto (c .resources))) (λ k. pos (x (Cleared k)))
+        (λ k. room-by-right (Market k) tt _ _ (words .market k) (omega (arith, amount-of c h x b (Cleared k) tt))))
+
+    pub zone-room : (n z : ℕ) → n ≡ c .resources → z < c .zones →
+        FourRoom (reservePricesOf y (Zone z)) (curveAmountsOf (λ k. sumOf (reserveInZone c x z k) (upto n))) (curveAmountsOf (λ k. pos (c .zoneRequirement z k)))
+    zone-room n z e m =
+        rw e
+        (four-room (Zone z) (λ k. sumOf (reserveInZone c x z k) (upto (c .resources))) (λ k. pos (c .zoneRequirement z k))
+        (λ k. room-by-right (Zone z k) m _ _ (words .zone z k) (omega (arith, h .zone-requirement z k m))))
+
+    -- MAX and HI stand on the left, MIN and LO on the right
+    pub limit-room : (i : ℕ) → i < c .resources → SmallAmounts (amountsOf x i) → FiveRoom (limitPricesOf y i) (amountsOf x i) (limitsOf (c .resource i))
+    unfolding limitPricesOf amountsOf limitsOf rightSide
+    limit-room i n small =
+        let s = c .resource i in
+        let most : MAX s ≤ 20000000000 = omega (arith, right-size c h (Limited i maxWithReserve) n .le, abs-neg (pos (MAX s))) in
+        record {
+          amounts = small;
+          max-with-reserve = room-by-left (Limited i maxWithReserve) n _ _ (words .below-max i n) most;
+          max-with-short-term = room-by-left (Limited i maxWithShortTerm) n _ _ (words .below-max-short-term i n) most;
+          minimum = room-by-right (Limited i minimum) n _ _ (words .above-min i n) (omega (arith, right-size c h (Limited i minimum) n .le));
+          high = room-by-left (Limited i high) n _ _ (words .below-high i n) (omega (arith, right-size c h (Limited i high) n .le, abs-neg (pos (HI s))));
+          low = room-by-right (Limited i low) n _ _ (words .above-low i n) (omega (arith, right-size c h (Limited i low) n .le));
+        }

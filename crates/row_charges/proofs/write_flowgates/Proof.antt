@@ -1,0 +1,60 @@
+-- `row_charges::write_flowgates` meets its contract.
+-- The loop's invariant: the charges of the flowgates passed stand in front, the rest is untouched; the measure is the flowgates to go.
+use mathlib.Core.List.{map, _++_}
+use mathlib.Core.Path.{_≡_, _∙_}
+use Prim.Native.Nat.{_-_, _≤_}
+use native.Mathlib.Omega.{arith}
+use lib.ListN.{length, drop, length-set}
+use borrow.Author.Needs.{needs, sfits-of}
+use mir.Facts.{toZ-ofZ}
+use mir.Syntax.{w64}
+use Rattle.arith.specs.Sums.{upto}
+use Rattle.market.specs.Rows.{Flowgate}
+use Rattle.records.proofs.Places.{flowgates-is}
+use Rattle.row_charges.specs.Families.{chargeOf}
+use Rattle.row_charges.proofs.Written.{row-written, rows-done}
+use Rattle.row_charges.proofs.write_flowgates.Statement.{statement}
+use Rattle.row_charges.proofs.write_flowgates.Tie as tie
+
+abbrev Inv-loop : tie.InvT-loop
+Inv-loop b q r z f out₀ g₀ out g = (g ≤ f) × (length out ≡ length out₀) × (out ≡ map (chargeOf b q) (map Flowgate (upto g)) ++ drop g out₀)
+
+abbrev μ-loop : tie.MeasureT-loop
+μ-loop b q r z f out₀ g₀ out g = f - g
+
+loop-holds : tie.Need-loop-holds Inv-loop μ-loop
+unfolding upto
+loop-holds c = search needs
+
+loop-again : tie.Need-loop-again Inv-loop μ-loop
+loop-again c =
+    let s = c .before .before .before .before .before in
+    let l = c .before .before .loop in
+    let h = chargeOf (s .args .b .now) (s .args .q .now) in
+    rw (toZ-ofZ (sfits-of {w = w64} (c .flowgate-charge .ok)), c .flowgate-charge .ensures) (
+      omega arith,
+      length-set (l .out) (l .g) (h (Flowgate (l .g))) ∙ l .inv .1,
+      row-written h Flowgate (l .g) (s .args .out .now) (l .out) (omega arith) (l .inv .2),
+    )
+
+returns : tie.Need-returns Inv-loop μ-loop
+returns c =
+    let s = c .before .before .before .before in
+    let l = c .before .loop in
+    rows-done (chargeOf (s .args .b .now) (s .args .q .now)) Flowgate (omega arith) (flowgates-is (s .pre .0 .prices .case-bytes)) (s .args .out .now) (l .out) (l .inv .2)
+
+pub write-flowgates-spec : {M : Type 1} → statement M
+write-flowgates-spec =
+    tie.close
+    (tie.spec
+    Inv-loop
+    μ-loop
+    loop-holds
+    (λ c κs. search needs)
+    (λ c. search needs)
+    (λ c. search needs)
+    (λ c. search needs)
+    (λ c. search needs)
+    loop-again
+    (λ c. search needs)
+    returns)

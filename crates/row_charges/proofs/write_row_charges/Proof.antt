@@ -1,0 +1,60 @@
+-- `row_charges::write_row_charges` meets its contract.
+use mathlib.Core.List.{_∷_, _++_, map}
+use mathlib.Core.Path.{_≡_, refl, _∙_}
+use Prim.Native.Nat.{_+_, _*_, _-_}
+use native.Mathlib.Omega.{arith}
+use lib.ListN.{length, drop}
+use borrow.Rule.Slice.PartMut.{putMid}
+use borrow.Author.Needs.{needs}
+use Rattle.market.specs.CaseFile.{caseOf}
+use Rattle.market.specs.Rows.{Balance, marketRows, zoneRows, flowgateRows, limitRows}
+use Rattle.records.proofs.Places.{zones-is}
+use Rattle.delivery.proofs.Parts.{write-on}
+use Rattle.row_charges.specs.Families.{chargeOf}
+use Rattle.row_charges.proofs.Written.{zone-count, all-written}
+use Rattle.row_charges.proofs.write_row_charges.Statement.{statement}
+use Rattle.row_charges.proofs.write_row_charges.Tie as tie
+
+-- rows 1 to 5 and the zones' stand in front
+zones-written : (c : tie.After-out2) →
+    let s = c .before .before .before .before .before .before .before .before in
+    let h = chargeOf (s .args .b .now) (s .args .q .now) in
+    let first = c .before .before .before .before .write-system .last .1 .1 .1 .1 .1 .0 in
+    putMid 5 (length first - 5) first (c .before .write-zones .last .1 .1 .1 .1 .1 .0)
+    ≡ (map h (Balance ∷ marketRows) ++ map h (zoneRows (caseOf (s .args .b .now)))) ++ drop (5 + s .args .z * 4) (s .args .out .now)
+zones-written c =
+    let s = c .before .before .before .before .before .before .before .before in
+    let h = chargeOf (s .args .b .now) (s .args .q .now) in
+    write-on (map h (Balance ∷ marketRows)) (map h (zoneRows (caseOf (s .args .b .now)))) (s .args .out .now) (c .before .before .before .before .write-system .last .1 .1 .1 .1 .1 .0) (c .before .write-zones .last .1 .1 .1 .1 .1 .0)
+    5 (s .args .z * 4) 5 refl refl (omega arith) (c .before .before .before .before .write-system .ensures) (c .before .write-zones .ensures)
+
+returns : tie.Need-returns
+returns c =
+    let s = c .before .before .before .before .before .before .before .before .before .before .before in
+    let cs = caseOf (s .args .b .now) in
+    let h = chargeOf (s .args .b .now) (s .args .q .now) in
+    let first = c .before .before .before .before .before .before .before .write-system .last .1 .1 .1 .1 .1 .0 in
+    let out = putMid 5 (length first - 5) first (c .before .before .before .before .write-zones .last .1 .1 .1 .1 .1 .0) in
+    write-on (map h (Balance ∷ marketRows) ++ map h (zoneRows cs)) (map h (flowgateRows cs ++ limitRows cs)) (s .args .out .now) out (c .before .write-network .last .1 .1 .1 .1 .1 .0)
+    (5 + s .args .z * 4) (s .args .f + s .args .r * 5) (5 + s .args .z * 4)
+    (zone-count h cs (zones-is (s .pre .0 .prices .case-bytes))) refl (omega arith) (zones-written (c .before .before .before)) (c .before .write-network .ensures)
+    ∙ all-written h cs (s .args .z) (s .args .f) (s .args .r) (s .args .out .now)
+
+pub write-row-charges-spec : {M : Type 1} → statement M
+write-row-charges-spec =
+    tie.close
+    (tie.spec
+    (λ c. search needs)
+    (λ c. search needs)
+    (λ c κs. search needs)
+    (λ c. search needs)
+    (λ c. search needs)
+    (λ c. search needs)
+    (λ c κs. search needs)
+    (λ c. search needs)
+    (λ c. search needs)
+    (λ c. search needs)
+    (λ c. search needs)
+    (λ c κs. search needs)
+    (λ c. search needs)
+    returns)

@@ -1,0 +1,208 @@
+// The charges of all rows of a standing certificate, written into a lent buffer: row 1, the market's four, each zone's four,
+// each flowgate's, each resource's five (01, 'Rows', 'Certificate, cost, bound, charges'). A row's charge is its price times
+// its slack. Each function writes from the front of what it is lent; what stands beyond stays as it was.
+ghost use mathlib.Core.Path.{_≡_};
+ghost use mathlib.Core.List.{[], _∷_, map, _++_};
+ghost use Prim.Native.Nat.{_+_, _*_, _<_, _≤_};
+ghost use lib.IntN.{_-ℤ_, _*ℤ_};
+ghost use lib.ListN.{length, drop};
+ghost use Rattle.market.specs.Case.{curves};
+ghost use Rattle.market.specs.CaseFile.{caseOf};
+ghost use Rattle.market.specs.Rows.{Balance, Zone, Flowgate, Limited, limits, marketRows, zoneRows, flowgateRows, limitRows, rows};
+ghost use Rattle.market.specs.Certificate.{certificateOf};
+ghost use Rattle.market.specs.Charges.{rowCharge};
+ghost use Rattle.prices.specs.Standing.{Standing};
+ghost use Rattle.row_charges.specs.Families.{ChargeRoom, FourRoom, FiveRoom, chargeOf, fourCharges, fiveCharges};
+use limits::ResourceLimits;
+use market::Amounts;
+use market::CurveAmounts;
+use market::Kw;
+use market::LimitPrices;
+use market::Millicents;
+use market::ReservePrices;
+
+// The price of a row times its slack, which is one side less the other.
+fn charge(price: Millicents, more: Kw, less: Kw) -> i64
+    requires { ⌜ ChargeRoom (price .0) (more .0) (less .0) ⌝ }
+    ensures { λ v. ⌜ v ≡ price .0 *ℤ (more .0 -ℤ less .0) ⌝ }
+{
+    let slack = units::kw_difference(more, less);
+    let value = units::value(price, slack);
+    value.0
+}
+
+// ---- row 1 and the market's reserve rows
+
+// Energy less demand.
+fn write_balance(b: &[u8], q: &[u8], r: usize, z: usize, f: usize, out: &mut [i64])
+    requires { ⌜ Standing (now b) (now q) r z f × (1 ≤ length (now out)) ⌝ }
+    ensures { λ _. ⌜ now (out .exit) ≡ map (chargeOf (now (b .entry)) (now (q .entry))) (Balance ∷ []) ++ drop 1 (now (out .entry)) ⌝ }
+{
+    let price = entries::balance_price(q, r, z, f);
+    let total = rows::energy_total(q, r, z, f);
+    let demand = records::demand(b);
+    let value = charge(price, total, demand);
+    out[0] = value;
+}
+
+// Of four reserve rows: what they have less what they need.
+fn write_four(prices: ReservePrices, have: CurveAmounts, need: CurveAmounts, out: &mut [i64])
+    requires { ⌜ FourRoom prices have need × (4 ≤ length (now out)) ⌝ }
+    ensures { λ _. ⌜ now (out .exit) ≡ fourCharges prices have need ++ drop 4 (now (out .entry)) ⌝ }
+{
+    let operating = charge(prices.operating, have.operating, need.operating);
+    let both = charge(
+        prices.regulating_plus_spinning,
+        have.regulating_plus_spinning,
+        need.regulating_plus_spinning,
+    );
+    let regulating = charge(prices.regulating, have.regulating, need.regulating);
+    let short_term = charge(prices.short_term, have.short_term, need.short_term);
+    out[0] = operating;
+    out[1] = both;
+    out[2] = regulating;
+    out[3] = short_term;
+}
+
+// Against the cleared quantities.
+fn write_market(b: &[u8], q: &[u8], r: usize, z: usize, f: usize, out: &mut [i64])
+    requires { ⌜ Standing (now b) (now q) r z f × (4 ≤ length (now out)) ⌝ }
+    ensures { λ _. ⌜ now (out .exit) ≡ map (chargeOf (now (b .entry)) (now (q .entry))) marketRows ++ drop 4 (now (out .entry)) ⌝ }
+{
+    let prices = entries::market_prices(q, r, z, f);
+    let have = reserves::market_reserves(b, q, r, z, f);
+    let need = entries::cleared(q, r, z, f);
+    write_four(prices, have, need, out);
+}
+
+// Rows 1 to 5.
+fn write_system(b: &[u8], q: &[u8], r: usize, z: usize, f: usize, out: &mut [i64])
+    requires { ⌜ Standing (now b) (now q) r z f × (5 ≤ length (now out)) ⌝ }
+    ensures { λ _. ⌜ now (out .exit) ≡ map (chargeOf (now (b .entry)) (now (q .entry))) (Balance ∷ marketRows) ++ drop 5 (now (out .entry)) ⌝ }
+{
+    write_balance(b, q, r, z, f, out);
+    write_market(b, q, r, z, f, &mut out[1..]);
+}
+
+// ---- zones' reserve rows
+
+// Against what the zone needs.
+fn write_zone(b: &[u8], q: &[u8], r: usize, z: usize, f: usize, zone: usize, out: &mut [i64])
+    requires { ⌜ Standing (now b) (now q) r z f × ((zone < z) × (4 ≤ length (now out))) ⌝ }
+    ensures { λ _. ⌜ now (out .exit) ≡ map (chargeOf (now (b .entry)) (now (q .entry))) (map (Zone zone) curves) ++ drop 4 (now (out .entry)) ⌝ }
+{
+    let prices = entries::zone_prices_at(q, r, z, f, zone);
+    let have = reserves::zone_reserves(b, q, r, z, f, zone);
+    let need = rows::required(b, zone);
+    write_four(prices, have, need, out);
+}
+
+// Each zone's, from its own place on.
+fn write_zones(b: &[u8], q: &[u8], r: usize, z: usize, f: usize, out: &mut [i64])
+    requires { ⌜ Standing (now b) (now q) r z f × (z * 4 ≤ length (now out)) ⌝ }
+    ensures { λ _. ⌜ now (out .exit) ≡ map (chargeOf (now (b .entry)) (now (q .entry))) (zoneRows (caseOf (now (b .entry)))) ++ drop (z * 4) (now (out .entry)) ⌝ }
+{
+    let mut zone: usize = 0;
+    let mut at: usize = 0;
+    while zone < z {
+        write_zone(b, q, r, z, f, zone, &mut out[at..]);
+        at += 4;
+        zone += 1;
+    }
+}
+
+// ---- flowgates' rows
+
+// 1000 × the limit less the flow, in thousandths of a kW: a price in cents is as many thousandths of a cent for each.
+fn flowgate_charge(b: &[u8], q: &[u8], r: usize, z: usize, f: usize, g: usize) -> i64
+    requires { ⌜ Standing (now b) (now q) r z f × (g < f) ⌝ }
+    ensures { λ v. ⌜ v ≡ chargeOf (now (b .entry)) (now (q .entry)) (Flowgate g) ⌝ }
+{
+    let cents = entries::flowgate_price_at(q, r, z, f, g);
+    let price = units::factored(cents, 1);
+    let flows = rows::flow(b, q, r, z, f, g);
+    let limit = records::flowgate_limit_at(b, r, z, g);
+    let most = units::flow(1000, limit);
+    charge(price, most, flows)
+}
+
+fn write_flowgates(b: &[u8], q: &[u8], r: usize, z: usize, f: usize, out: &mut [i64])
+    requires { ⌜ Standing (now b) (now q) r z f × (f ≤ length (now out)) ⌝ }
+    ensures { λ _. ⌜ now (out .exit) ≡ map (chargeOf (now (b .entry)) (now (q .entry))) (flowgateRows (caseOf (now (b .entry)))) ++ drop f (now (out .entry)) ⌝ }
+{
+    let mut g: usize = 0;
+    while g < f {
+        let value = flowgate_charge(b, q, r, z, f, g);
+        out[g] = value;
+        g += 1;
+    }
+}
+
+// ---- each resource's own rows
+
+// MAX - (e+g+c), MAX - (e+s), e-g - MIN, HI - e, e - LO.
+fn write_five(prices: LimitPrices, a: Amounts, l: ResourceLimits, out: &mut [i64])
+    requires { ⌜ FiveRoom prices a l × (5 ≤ length (now out)) ⌝ }
+    ensures { λ _. ⌜ now (out .exit) ≡ fiveCharges prices a l ++ drop 5 (now (out .entry)) ⌝ }
+{
+    let up = units::kw_sum(a.energy, a.regulation);
+    let with_reserve = units::kw_sum(up, a.contingency);
+    let with_short_term = units::kw_sum(a.energy, a.on_line_short_term);
+    let down = units::kw_difference(a.energy, a.regulation);
+    let reserve = charge(prices.max_with_reserve, l.max, with_reserve);
+    let short_term = charge(prices.max_with_short_term, l.max, with_short_term);
+    let minimum = charge(prices.minimum, down, l.min);
+    let high = charge(prices.high, l.high, a.energy);
+    let low = charge(prices.low, a.energy, l.low);
+    out[0] = reserve;
+    out[1] = short_term;
+    out[2] = minimum;
+    out[3] = high;
+    out[4] = low;
+}
+
+fn write_resource(b: &[u8], q: &[u8], r: usize, z: usize, f: usize, i: usize, out: &mut [i64])
+    requires { ⌜ Standing (now b) (now q) r z f × ((i < r) × (5 ≤ length (now out))) ⌝ }
+    ensures { λ _. ⌜ now (out .exit) ≡ map (chargeOf (now (b .entry)) (now (q .entry))) (map (Limited i) limits) ++ drop 5 (now (out .entry)) ⌝ }
+{
+    let prices = entries::limit_prices_at(q, r, z, f, i);
+    let resource = records::resource_at(b, z, i);
+    let own = limits::limits_of(resource);
+    let a = entries::amounts_at(q, r, z, f, i);
+    write_five(prices, a, own, out);
+}
+
+// Each resource's, from its own place on.
+fn write_resources(b: &[u8], q: &[u8], r: usize, z: usize, f: usize, out: &mut [i64])
+    requires { ⌜ Standing (now b) (now q) r z f × (r * 5 ≤ length (now out)) ⌝ }
+    ensures { λ _. ⌜ now (out .exit) ≡ map (chargeOf (now (b .entry)) (now (q .entry))) (limitRows (caseOf (now (b .entry)))) ++ drop (r * 5) (now (out .entry)) ⌝ }
+{
+    let mut i: usize = 0;
+    let mut at: usize = 0;
+    while i < r {
+        write_resource(b, q, r, z, f, i, &mut out[at..]);
+        at += 5;
+        i += 1;
+    }
+}
+
+// ---- all rows
+
+// Flowgates' and resources'.
+fn write_network(b: &[u8], q: &[u8], r: usize, z: usize, f: usize, out: &mut [i64])
+    requires { ⌜ Standing (now b) (now q) r z f × (f + r * 5 ≤ length (now out)) ⌝ }
+    ensures { λ _. ⌜ now (out .exit) ≡ map (chargeOf (now (b .entry)) (now (q .entry))) (flowgateRows (caseOf (now (b .entry))) ++ limitRows (caseOf (now (b .entry)))) ++ drop (f + r * 5) (now (out .entry)) ⌝ }
+{
+    write_flowgates(b, q, r, z, f, out);
+    write_resources(b, q, r, z, f, &mut out[f..]);
+}
+
+pub fn write_row_charges(b: &[u8], q: &[u8], r: usize, z: usize, f: usize, out: &mut [i64])
+    requires { ⌜ Standing (now b) (now q) r z f × (5 + z * 4 + f + r * 5 ≤ length (now out)) ⌝ }
+    ensures { λ _. ⌜ now (out .exit) ≡ map (rowCharge (caseOf (now (b .entry))) (certificateOf (now (q .entry)) .amount) (certificateOf (now (q .entry)) .price)) (rows (caseOf (now (b .entry)))) ++ drop (5 + z * 4 + f + r * 5) (now (out .entry)) ⌝ }
+{
+    let at = 5 + z * 4;
+    write_system(b, q, r, z, f, out);
+    write_zones(b, q, r, z, f, &mut out[5..]);
+    write_network(b, q, r, z, f, &mut out[at..]);
+}
