@@ -67,6 +67,15 @@ nostwier_result nostwier_check_certificate(const uint8_t *c, size_t cn, const ui
  * numbers stays as it was. Refused by 1 to 14, then by 15 if n is less than R + 4Z; then all of out stays as it was. */
 nostwier_answer nostwier_prices(const uint8_t *c, size_t cn, const uint8_t *q, size_t qn, int64_t *out, size_t n);
 
+/* The call for charges is there. */
+#define NOSTWIER_HAS_CHARGES
+
+/* Writes the listed charges of an accepted certificate, in grains, to out: for each row its price times its slack; then for each
+ * resource ten energy steps, regulating, contingency, on-line and off-line short-term reserve; then four steps for each of
+ * the four demand curves. They are 21 + 4Z + F + 19R numbers, none below zero, and their sum is the gap. The rest of out's n
+ * numbers stays as it was. Refused by 1 to 14, then by 15 if n is less than that; then all of out stays as it was. */
+nostwier_answer nostwier_charges(const uint8_t *c, size_t cn, const uint8_t *q, size_t qn, int64_t *out, size_t n);
+
 #ifdef __cplusplus
 }
 #endif

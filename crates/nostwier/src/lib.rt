@@ -2,7 +2,7 @@
 ghost use mathlib.Core.Path.{_≡_};
 ghost use lib.ListN.{length};
 ghost use Rattle.market.specs.Refusals.{caseNumberOf, answerOf};
-ghost use Rattle.market.specs.Outcome.{caseAnswer, priceAnswer, priceBuffer};
+ghost use Rattle.market.specs.Outcome.{caseAnswer, priceAnswer, priceBuffer, chargeAnswer, chargeBuffer};
 ghost use Rattle.nostwier.specs.Reported.{Reported};
 use market::Answer;
 use market::CaseAnswer;
@@ -52,6 +52,24 @@ pub extern "C" fn nostwier_prices(c: &[u8], q: &[u8], out: &mut [i64]) -> Answer
     ensures { λ r. ⌜ (r ≡ answerOf (priceAnswer (now (c .entry)) (now (q .entry)) (length (now (out .entry))))) × (now (out .exit) ≡ priceBuffer (now (c .entry)) (now (q .entry)) (now (out .entry))) ⌝ }
 {
     let answer = outcomes::deliver_prices(c, q, out);
+    match answer {
+        Delivery::Delivered => Answer {
+            refusal: 0,
+            place: 0,
+        },
+        Delivery::Refused(why) => Answer {
+            refusal: why.number(),
+            place: why.place(),
+        },
+    }
+}
+
+// 21 + 4Z + F + 19R charges, from the buffer's start on; the rest of it, and all of it on a refusal, stays as it was.
+#[no_mangle]
+pub extern "C" fn nostwier_charges(c: &[u8], q: &[u8], out: &mut [i64]) -> Answer
+    ensures { λ r. ⌜ (r ≡ answerOf (chargeAnswer (now (c .entry)) (now (q .entry)) (length (now (out .entry))))) × (now (out .exit) ≡ chargeBuffer (now (c .entry)) (now (q .entry)) (now (out .entry))) ⌝ }
+{
+    let answer = outcomes::deliver_charges(c, q, out);
     match answer {
         Delivery::Delivered => Answer {
             refusal: 0,

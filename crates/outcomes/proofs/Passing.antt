@@ -23,12 +23,13 @@ use Rattle.market.specs.Cost.{cost}
 use Rattle.market.specs.Bound.{bound}
 use Rattle.market.specs.Records.{countsIn}
 use Rattle.market.specs.Refusals.{Finding, clear, holds, unless, firstOf, firstFailing, foundAt, outcomeOf, deliveryOf, bufferAfter}
+use Rattle.market.specs.Charges.{chargeCount}
 use Rattle.market.specs.Prices.{priceList, priceCount}
 use Rattle.market.specs.Fits.{Fits64}
-use Rattle.market.specs.Outcome.{grounds, rowMet, valuation, outcome, room, priceGrounds, priceAnswer, priceBuffer}
+use Rattle.market.specs.Outcome.{grounds, rowMet, valuation, outcome, room, priceGrounds, priceAnswer, priceBuffer, chargeGrounds, chargeAnswer, chargeBuffer, listedCharges}
 use Rattle.market.proofs.Grounds.{none-holds, all-clear}
 use Rattle.market.proofs.Accepted.{demand3}
-use Rattle.market.proofs.Lengths.{price-count}
+use Rattle.market.proofs.Lengths.{charge-count, price-count}
 use Rattle.market.proofs.Ranges.{valid-ranges, price-ranges}
 use Rattle.market.proofs.SumsFit.{cost-size, bound-size, sums-fit-in-ranges}
 use Rattle.cases.specs.declared.Stage.{Stage}
@@ -132,29 +133,58 @@ module _ (gs : List Finding) (needed : ℕ) (new old : List ℤ) where
       let e : firstOf (gs ++ (room needed (length old) ∷ [])) ≡ clear = first-then gs (room needed (length old)) h ∙ ap (λ (t : Bool). unless t R.BufferShort) (le-leb needed (length old) l) in
       (rw e, rw (e, k))
 
+-- ---- the counts that passed, and the two lists that a certificate gives
+module _ (b q : List ℕ) (n : Counts) (h : stageOf (countsIn (caseOf b)) (firstOf (grounds b q)) ≡ Passed n) where
+  clear-all : firstOf (grounds b q) ≡ clear
+  clear-all = passed-is (countsIn (caseOf b)) n (firstOf (grounds b q)) h .0
+
+  counts-are : n ≡ countsIn (caseOf b)
+  counts-are = passed-is (countsIn (caseOf b)) n (firstOf (grounds b q)) h .1
+
+  prices-needed : n .resources + 4 * n .zones ≡ priceCount (caseOf b)
+  prices-needed = rw counts-are
+
+  charges-needed : 21 + 4 * n .zones + n .flowgates + 19 * n .resources ≡ chargeCount (caseOf b)
+  charges-needed = rw counts-are
+
 module _ (b q : List ℕ) (old : List ℤ) where
   abbrev Prices : Delivery → List ℤ → Type 0
   Prices r out = (r ≡ priceAnswer b q (length old)) × (out ≡ priceBuffer b q old)
 
-  pub prices-refused : (w : Refusal) → stageOf (countsIn (caseOf b)) (firstOf (grounds b q)) ≡ Refused w → Prices (D.Refused w) old
-  unfolding priceAnswer priceBuffer priceGrounds
-  prices-refused w h = refused-before (grounds b q) (priceCount (caseOf b)) (priceList (caseOf b) (certificateOf q .price)) old w (refused-is (countsIn (caseOf b)) w (firstOf (grounds b q)) h)
+  abbrev Charges : Delivery → List ℤ → Type 0
+  Charges r out = (r ≡ chargeAnswer b q (length old)) × (out ≡ chargeBuffer b q old)
+
+  module _ (w : Refusal) (h : stageOf (countsIn (caseOf b)) (firstOf (grounds b q)) ≡ Refused w) where
+    first-is : firstOf (grounds b q) ≡ holds w
+    first-is = refused-is (countsIn (caseOf b)) w (firstOf (grounds b q)) h
+
+    pub prices-refused : Prices (D.Refused w) old
+    unfolding priceAnswer priceBuffer priceGrounds
+    prices-refused = refused-before (grounds b q) (priceCount (caseOf b)) (priceList (caseOf b) (certificateOf q .price)) old w first-is
+
+    pub charges-refused : Charges (D.Refused w) old
+    unfolding chargeAnswer chargeBuffer chargeGrounds
+    charges-refused = refused-before (grounds b q) (chargeCount (caseOf b)) (listedCharges b q) old w first-is
 
   module _ (n : Counts) (h : stageOf (countsIn (caseOf b)) (firstOf (grounds b q)) ≡ Passed n) where
-    clear-all : firstOf (grounds b q) ≡ clear
-    clear-all = passed-is (countsIn (caseOf b)) n (firstOf (grounds b q)) h .0
-
-    needed-is : n .resources + 4 * n .zones ≡ priceCount (caseOf b)
-    needed-is = rw (passed-is (countsIn (caseOf b)) n (firstOf (grounds b q)) h .1)
-
     pub prices-short : length old < n .resources + 4 * n .zones → Prices (D.Refused R.BufferShort) old
     unfolding priceAnswer priceBuffer priceGrounds
-    prices-short l = too-short (grounds b q) (priceCount (caseOf b)) (priceList (caseOf b) (certificateOf q .price)) old clear-all (omega (arith, needed-is))
+    prices-short l = too-short (grounds b q) (priceCount (caseOf b)) (priceList (caseOf b) (certificateOf q .price)) old (clear-all b q n h) (omega (arith, prices-needed b q n h))
+
+    pub charges-short : length old < 21 + 4 * n .zones + n .flowgates + 19 * n .resources → Charges (D.Refused R.BufferShort) old
+    unfolding chargeAnswer chargeBuffer chargeGrounds
+    charges-short l = too-short (grounds b q) (chargeCount (caseOf b)) (listedCharges b q) old (clear-all b q n h) (omega (arith, charges-needed b q n h))
 
     pub prices-written : (out : List ℤ) → n .resources + 4 * n .zones ≤ length old → out ≡ priceList (caseOf b) (certificateOf q .price) ++ drop (priceCount (caseOf b)) old → Prices D.Delivered out
     unfolding priceAnswer priceBuffer priceGrounds
     prices-written out l e =
-        let d = delivered (grounds b q) (priceCount (caseOf b)) (priceList (caseOf b) (certificateOf q .price)) old clear-all (omega (arith, needed-is)) (price-count (caseOf b) (certificateOf q .price)) in
+        let d = delivered (grounds b q) (priceCount (caseOf b)) (priceList (caseOf b) (certificateOf q .price)) old (clear-all b q n h) (omega (arith, prices-needed b q n h)) (price-count (caseOf b) (certificateOf q .price)) in
+        (d .0, e ∙ d .1)
+
+    pub charges-written : (out : List ℤ) → 21 + 4 * n .zones + n .flowgates + 19 * n .resources ≤ length old → out ≡ listedCharges b q ++ drop (chargeCount (caseOf b)) old → Charges D.Delivered out
+    unfolding chargeAnswer chargeBuffer chargeGrounds
+    charges-written out l e =
+        let d = delivered (grounds b q) (chargeCount (caseOf b)) (listedCharges b q) old (clear-all b q n h) (omega (arith, charges-needed b q n h)) (charge-count (caseOf b) (certificateOf q .amount) (certificateOf q .price)) in
         (d .0, e ∙ d .1)
 
 -- ---- the numbers of success fit

@@ -13,7 +13,7 @@ ghost use Rattle.market.specs.CaseFile.{caseOf};
 ghost use Rattle.market.specs.Certificate.{certificateOf};
 ghost use Rattle.market.specs.Records.{countsIn};
 ghost use Rattle.market.specs.Refusals.{firstOf};
-ghost use Rattle.market.specs.Outcome.{grounds, valuation, priceAnswer, priceBuffer};
+ghost use Rattle.market.specs.Outcome.{grounds, valuation, priceAnswer, priceBuffer, chargeAnswer, chargeBuffer};
 ghost use Rattle.cases.specs.Stages.{stageOf};
 ghost use Rattle.prices.specs.Standing.{Standing};
 ghost use Rattle.outcomes.specs.Checked.{Checked};
@@ -66,6 +66,23 @@ pub fn deliver_prices(b: &[u8], q: &[u8], out: &mut [i64]) -> Delivery
                 return Delivery::Refused(Refusal::BufferShort);
             }
             delivery::write_prices(b, q, n.resources, n.zones, n.flowgates, out);
+            Delivery::Delivered
+        }
+        Stage::Refused(why) => Delivery::Refused(why),
+    }
+}
+
+// Writes the charges of an accepted certificate, in charge order.
+pub fn deliver_charges(b: &[u8], q: &[u8], out: &mut [i64]) -> Delivery
+    ensures { λ r. ⌜ (r ≡ chargeAnswer (now (b .entry)) (now (q .entry)) (length (now (out .entry)))) × (now (out .exit) ≡ chargeBuffer (now (b .entry)) (now (q .entry)) (now (out .entry))) ⌝ }
+{
+    let stage = rows_stage(b, q);
+    match stage {
+        Stage::Passed(n) => {
+            if out.len() < 21 + 4 * n.zones + n.flowgates + 19 * n.resources {
+                return Delivery::Refused(Refusal::BufferShort);
+            }
+            charges::write_charges(b, q, n.resources, n.zones, n.flowgates, out);
             Delivery::Delivered
         }
         Stage::Refused(why) => Delivery::Refused(why),
