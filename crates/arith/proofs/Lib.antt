@@ -7,3 +7,4 @@ pub mod Lists
 pub mod Picks
 pub mod Duality
 pub mod Machine
+pub mod Buffers

@@ -57,7 +57,7 @@ case-bytes b h k =
     }
 
 -- ---- one test more
-not-passed : {A : Type 0} {n : Counts} {w : Refusal} → Refused w ≡ Passed n → A
+pub not-passed : {A : Type 0} {n : Counts} {w : Refusal} → Refused w ≡ Passed n → A
 not-passed e = absurd (let z : _≡_ {A = ℕ} 0 1 = cc in omega arith)
 
 module _ (s : Stage) (t : Bool) (w : Refusal) where
@@ -115,9 +115,13 @@ stages-are b =
     first-by (countsIn (caseOf b)) (lengthRight 170 b) (versionRight b) (countsRight (caseOf b .resources) (caseOf b .zones) (caseOf b .flowgates)) (caseSizeRight b (caseOf b)) (fieldsInRange (caseOf b)) (stepsRule (caseOf b)) (limitsOrdered (caseOf b))
 
 -- ---- what a caller learns
-passed-clear : (m n : Counts) (f : Finding) → stageOf m f ≡ Passed n → (f ≡ clear) × (n ≡ m)
+pub passed-clear : (m n : Counts) (f : Finding) → stageOf m f ≡ Passed n → (f ≡ clear) × (n ≡ m)
 passed-clear m n clear h = (refl, cc)
 passed-clear m n (holds r) h = absurd (let z : _≡_ {A = ℕ} 0 1 = cc in omega arith)
+
+pub refused-holds : (m : Counts) (w : Refusal) (f : Finding) → stageOf m f ≡ Refused w → f ≡ holds w
+refused-holds m w clear h = not-passed (sym h)
+refused-holds m w (holds r) h = cc
 
 module _ (b : List ℕ) (n : Counts) (h : stageOf (countsIn (caseOf b)) (firstOf (caseGrounds b)) ≡ Passed n) where
   pub passed-valid : Valid b

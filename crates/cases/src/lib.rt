@@ -267,8 +267,8 @@ pub fn count_at(b: &[u8], at: usize) -> usize
     wire::u8_at(b, at) as usize
 }
 
-fn counts_at(b: &[u8]) -> Counts
-    requires { ⌜ Within (now b) 0 170 ⌝ }
+pub fn counts_at(b: &[u8]) -> Counts
+    requires { ⌜ Within (now b) 0 8 ⌝ }
     ensures { λ r. ⌜ r ≡ countsIn (caseOf (now (b .entry))) ⌝ }
 {
     Counts {
@@ -284,7 +284,7 @@ fn count_right(count: usize, least: usize, most: usize) -> bool
     least <= count && count <= most
 }
 
-fn counts_right(n: Counts) -> bool
+pub fn counts_right(n: Counts) -> bool
     ensures { λ t. ⌜ t ≡ countsRight (n .resources) (n .zones) (n .flowgates) ⌝ }
 {
     if !count_right(n.resources, 1, 64) {

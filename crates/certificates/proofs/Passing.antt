@@ -21,6 +21,7 @@ use Rattle.market.proofs.Ranges.{valid-ranges, bounded}
 use Rattle.cases.specs.declared.Stage.{Stage}
 use Rattle.cases.specs.declared.Stage.the-variants.{Passed, Refused}
 use Rattle.cases.specs.Stages.{stageOf}
+use Rattle.cases.proofs.Passing.{not-passed, passed-clear, refused-holds}
 use Rattle.records.specs.Places.{CaseBytes}
 use Rattle.records.proofs.Places.{valid-bytes}
 use Rattle.filings.specs.Form.{formGrounds}
@@ -30,17 +31,6 @@ use Rattle.certificates.specs.Grounds13.{priceGround, boundGround, groun
 use Rattle.certificates.specs.Filing.{Filing, FiledWith, Filed, Advanced, afterwards}
 
 -- ---- stages and findings
-not-passed : {A : Type 0} {n : Counts} {w : Refusal} → Refused w ≡ Passed n → A
-not-passed e = absurd (let z : _≡_ {A = ℕ} 0 1 = cc in omega arith)
-
-passed-clear : (m n : Counts) (f : Finding) → stageOf m f ≡ Passed n → (f ≡ clear) × (n ≡ m)
-passed-clear m n clear h = (refl, cc)
-passed-clear m n (holds r) h = not-passed h
-
-refused-holds : (m : Counts) (w : Refusal) (f : Finding) → stageOf m f ≡ Refused w → f ≡ holds w
-refused-holds m w clear h = not-passed (sym h)
-refused-holds m w (holds r) h = cc
-
 first-of-append : (gs hs : List Finding) → firstOf (gs ++ hs) ≡ orElse (firstOf gs) (firstOf hs)
 unfolding firstOf
 first-of-append [] hs = refl

@@ -27,7 +27,7 @@ use Rattle.bounds.specs.Terms.{reserveBoundsOf, stepLeast, curveStepLeast}
 use Rattle.bounds.proofs.PricedTerms.{step-least-is, curve-step-least-is}
 use Rattle.costs.specs.Steps.{widthsOf}
 use Rattle.costs.proofs.Filling.{filled-same}
-use Rattle.delivery.proofs.Parts.{store-on}
+use Rattle.arith.proofs.Buffers.{store-on}
 use Rattle.charges.specs.Terms.{stepCharge, energyCharge, reserveCharges, curveStepCharge, curveCharge}
 
 -- ---- lists

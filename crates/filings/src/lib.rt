@@ -20,7 +20,7 @@ ghost use Rattle.filings.specs.Form.{formGrounds, countsAre, sizeIs};
 ghost use Rattle.filings.specs.PricePlaces.{zonePriced, limitsPriced};
 
 // ---- 8 to 11: the file's form
-fn length_right(q: &[u8]) -> bool
+pub fn length_right(q: &[u8]) -> bool
     ensures { λ t. ⌜ t ≡ lengthRight 44 (now (q .entry)) ⌝ }
 {
     if q.len() < 44 {
@@ -42,7 +42,7 @@ fn same_counts(q: &[u8], n: Counts) -> bool
     cases::count_at(q, 7) == n.flowgates
 }
 
-fn size_right(q: &[u8], n: Counts) -> bool
+pub fn size_right(q: &[u8], n: Counts) -> bool
     requires { ⌜ (n .resources ≤ 64) × (n .zones ≤ 8) × (n .flowgates ≤ 16) ⌝ }
     ensures { λ t. ⌜ t ≡ sizeIs (now (q .entry)) n ⌝ }
 {

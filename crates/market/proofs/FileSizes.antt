@@ -12,7 +12,7 @@ use Rattle.market.specs.Certificate.{certificateSize}
 use Rattle.market.specs.Numbers.{Field, fieldWidth, times, caseFields, certificateFields}
 
 -- ---- the same fields n times
-times-length : (n : ℕ) (fs : List Field) → length (times n fs) ≡ n * length fs
+pub times-length : (n : ℕ) (fs : List Field) → length (times n fs) ≡ n * length fs
 unfolding times
 times-length n fs = length-across (λ i. fs) (length fs) (λ i. refl) (upto n) ∙ ap (λ (m : ℕ). m * length fs) (length-upto n)
 

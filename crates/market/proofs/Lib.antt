@@ -1,5 +1,6 @@
 pub mod Computed
 pub mod Grounds
+pub mod LentBuffer
 pub mod Refused
 pub mod Steps
 pub mod Entries

@@ -29,7 +29,7 @@ written-clear m n (holds r) e = (cc, cc)
 
 -- ---- an operation that hands over a list unless a ground holds or the lent buffer is too short
 module _ {A : Type 0} where
-  abbrev handing : List Finding → List A → ℕ → List Finding
+  abbrev pub handing : List Finding → List A → ℕ → List Finding
   handing gs new n = gs ++ (room (length new) n ∷ [])
 
   -- where none holds, the wanted list is handed over
@@ -42,7 +42,7 @@ module _ {A : Type 0} where
       rw (e, none) (refl, refl)
 
   -- the n elements that were handed over
-  received : (gs : List Finding) (new old : List A) (n : ℕ) → transferOf (length new) (firstOf (handing gs new (length old))) ≡ Written n →
+  pub received : (gs : List Finding) (new old : List A) (n : ℕ) → transferOf (length new) (firstOf (handing gs new (length old))) ≡ Written n →
       AllClear gs × (take n (bufferAfter (firstOf (handing gs new (length old))) new old) ≡ new)
   received gs new old n e =
       let w = written-clear (length new) n (firstOf (handing gs new (length old))) e in

@@ -1,12 +1,10 @@
 -- From the stages' answer to the definitions: past 1 to 14 a certificate stands, its numbers fit, and its answer is 01's.
 use mathlib.Core.Path.{_≡_, refl, sym, _∙_, ap, subst}
-use mathlib.Core.Bool.{Bool}
 use mathlib.Core.List.{List, [], _∷_, _++_}
 use Prim.Native.Nat.{ℕ, zero, suc, _+_, _*_, _<_, _≤_}
 use native.Mathlib.Omega.{arith}
 use lib.IntN.{ℤ}
 use lib.ListN.{length, drop}
-use borrow.Author.Tests.{le-leb, lt-leb}
 use Rattle.arith.proofs.Lists.{each-split}
 use Rattle.market.specs.declared.Refusal.{Refusal}
 use Rattle.market.specs.declared.Refusal.the-variants as R
@@ -22,19 +20,21 @@ use Rattle.market.specs.Certificate.{certificateOf}
 use Rattle.market.specs.Cost.{cost}
 use Rattle.market.specs.Bound.{bound}
 use Rattle.market.specs.Records.{countsIn}
-use Rattle.market.specs.Refusals.{Finding, clear, holds, unless, firstOf, firstFailing, foundAt, outcomeOf, deliveryOf, bufferAfter}
+use Rattle.market.specs.Refusals.{Finding, clear, holds, firstOf, firstFailing, foundAt, outcomeOf, deliveryOf, bufferAfter}
 use Rattle.market.specs.Charges.{chargeCount}
 use Rattle.market.specs.Prices.{priceList, priceCount}
 use Rattle.market.specs.Fits.{Fits64}
 use Rattle.market.specs.Outcome.{grounds, rowMet, valuation, outcome, room, priceGrounds, priceAnswer, priceBuffer, chargeGrounds, chargeAnswer, chargeBuffer, listedCharges}
 use Rattle.market.proofs.Grounds.{none-holds, all-clear}
 use Rattle.market.proofs.Accepted.{demand3}
+use Rattle.market.proofs.LentBuffer.{first-then, first-stays, refused-before, too-short, long-enough}
 use Rattle.market.proofs.Lengths.{charge-count, price-count}
 use Rattle.market.proofs.Ranges.{valid-ranges, price-ranges}
 use Rattle.market.proofs.SumsFit.{cost-size, bound-size, sums-fit-in-ranges}
 use Rattle.cases.specs.declared.Stage.{Stage}
 use Rattle.cases.specs.declared.Stage.the-variants.{Passed, Refused}
 use Rattle.cases.specs.Stages.{stageOf}
+use Rattle.cases.proofs.Passing.{passed-clear, refused-holds}
 use Rattle.prices.specs.Standing.{Standing}
 use Rattle.units.specs.Room.{SumRoom}
 use Rattle.certificates.specs.Grounds13.{groundsTo13}
@@ -44,27 +44,6 @@ use Rattle.outcomes.specs.Checked.{Checked}
 -- ---- one ground more than 1 to 13
 abbrev rowGround : List ℕ → List ℕ → Finding
 rowGround b q = firstFailing (rowMet (caseOf b) (certificateOf q)) R.RowBroken 1 (rows (caseOf b))
-
-passed-is : (m n : Counts) (f : Finding) → stageOf m f ≡ Passed n → (f ≡ clear) × (n ≡ m)
-passed-is m n clear h = (refl, cc)
-passed-is m n (holds r) h = absurd (let z : _≡_ {A = ℕ} 0 1 = cc in omega arith)
-
-refused-is : (m : Counts) (w : Refusal) (f : Finding) → stageOf m f ≡ Refused w → f ≡ holds w
-refused-is m w clear h = absurd (let z : _≡_ {A = ℕ} 0 1 = cc in omega arith)
-refused-is m w (holds r) h = cc
-
-first-then : (gs : List Finding) (g : Finding) → firstOf gs ≡ clear → firstOf (gs ++ (g ∷ [])) ≡ g
-unfolding firstOf
-first-then [] clear h = refl
-first-then [] (holds r) h = refl
-first-then (clear ∷ gs) g h = first-then gs g h
-first-then (holds r ∷ gs) g h = absurd (let z : _≡_ {A = ℕ} 0 1 = cc in omega arith)
-
-first-stays : (gs : List Finding) (g : Finding) (r : Refusal) → firstOf gs ≡ holds r → firstOf (gs ++ (g ∷ [])) ≡ holds r
-unfolding firstOf
-first-stays [] g r h = absurd (let z : _≡_ {A = ℕ} 0 1 = cc in omega arith)
-first-stays (clear ∷ gs) g r h = first-stays gs g r h
-first-stays (holds s ∷ gs) g r h = h
 
 pub found-row : (n : ℕ) → 0 < n → foundAt R.RowBroken n ≡ holds (R.RowBroken n)
 found-row zero h = absurd (omega arith)
@@ -76,22 +55,22 @@ module _ (b q : List ℕ) where
 
   -- refused before the rows
   pub rows-not-reached : (w : Refusal) → stageOf (countsIn (caseOf b)) (firstOf (groundsTo13 b q)) ≡ Refused w → Refused w ≡ stageOf (countsIn (caseOf b)) (firstOf (grounds b q))
-  rows-not-reached w h = rw (grounds-are b q, first-stays (groundsTo13 b q) (rowGround b q) w (refused-is (countsIn (caseOf b)) w (firstOf (groundsTo13 b q)) h))
+  rows-not-reached w h = rw (grounds-are b q, first-stays (groundsTo13 b q) (rowGround b q) w (refused-holds (countsIn (caseOf b)) w (firstOf (groundsTo13 b q)) h))
 
   -- a row is broken
   pub row-broken : (n : Counts) (row : ℕ) → Stands13 n → 0 < row → foundAt R.RowBroken row ≡ rowGround b q → Refused (R.RowBroken row) ≡ stageOf (countsIn (caseOf b)) (firstOf (grounds b q))
-  row-broken n row h l e = rw (grounds-are b q, first-then (groundsTo13 b q) (rowGround b q) (passed-is (countsIn (caseOf b)) n (firstOf (groundsTo13 b q)) h .0), ← e, found-row row l)
+  row-broken n row h l e = rw (grounds-are b q, first-then (groundsTo13 b q) (rowGround b q) (passed-clear (countsIn (caseOf b)) n (firstOf (groundsTo13 b q)) h .0), ← e, found-row row l)
 
   -- none is
   pub rows-met : (n : Counts) (row : ℕ) → Stands13 n → row ≡ 0 → foundAt R.RowBroken row ≡ rowGround b q → Passed n ≡ stageOf (countsIn (caseOf b)) (firstOf (grounds b q))
   rows-met n row h z e =
-      let p = passed-is (countsIn (caseOf b)) n (firstOf (groundsTo13 b q)) h in
+      let p = passed-clear (countsIn (caseOf b)) n (firstOf (groundsTo13 b q)) h in
       rw (grounds-are b q, first-then (groundsTo13 b q) (rowGround b q) (p .0), ← e, z, p .1)
 
   -- ---- past 1 to 14
   pub all-standing : (n : Counts) → stageOf (countsIn (caseOf b)) (firstOf (grounds b q)) ≡ Passed n → Standing b q (n .resources) (n .zones) (n .flowgates)
   all-standing n h =
-      let p = passed-is (countsIn (caseOf b)) n (firstOf (grounds b q)) h in
+      let p = passed-clear (countsIn (caseOf b)) n (firstOf (grounds b q)) h in
       let each = none-holds (grounds b q) (p .0) in
       let to13 = each-split (λ g. g ≡ clear) (groundsTo13 b q) (rowGround b q ∷ []) (rw (grounds-are b q) at each) .0 in
       rw (p .1) (standing b q (all-clear (groundsTo13 b q) to13))
@@ -105,11 +84,11 @@ module _ (b q : List ℕ) where
   -- ---- the answer
   pub accepted : (n : Counts) (r : Outcome) → stageOf (countsIn (caseOf b)) (firstOf (grounds b q)) ≡ Passed n → r ≡ O.Accepted (valuation (caseOf b) (certificateOf q)) → r ≡ outcome b q
   unfolding outcome
-  accepted n r h e = e ∙ rw (passed-is (countsIn (caseOf b)) n (firstOf (grounds b q)) h .0)
+  accepted n r h e = e ∙ rw (passed-clear (countsIn (caseOf b)) n (firstOf (grounds b q)) h .0)
 
   pub refused : (w : Refusal) → stageOf (countsIn (caseOf b)) (firstOf (grounds b q)) ≡ Refused w → O.Refused w ≡ outcome b q
   unfolding outcome
-  refused w h = rw (refused-is (countsIn (caseOf b)) w (firstOf (grounds b q)) h)
+  refused w h = rw (refused-holds (countsIn (caseOf b)) w (firstOf (grounds b q)) h)
 
   -- and with it the promise
   pub checked : (r : Outcome) → r ≡ outcome b q → Checked b q r
@@ -120,26 +99,22 @@ module _ (gs : List Finding) (needed : ℕ) (new old : List ℤ) where
   abbrev all15 : Finding
   all15 = firstOf (gs ++ (room needed (length old) ∷ []))
 
-  refused-before : (w : Refusal) → firstOf gs ≡ holds w → (D.Refused w ≡ deliveryOf all15) × (old ≡ bufferAfter all15 new old)
-  refused-before w h = let e = first-stays gs (room needed (length old)) w h in (rw e, rw e)
+  numbers-refused : (w : Refusal) → firstOf gs ≡ holds w → (D.Refused w ≡ deliveryOf all15) × (old ≡ bufferAfter all15 new old)
+  numbers-refused w h = let e = refused-before gs needed (length old) w h in (rw e, rw e)
 
-  too-short : firstOf gs ≡ clear → length old < needed → (D.Refused R.BufferShort ≡ deliveryOf all15) × (old ≡ bufferAfter all15 new old)
-  too-short h l =
-      let e : firstOf (gs ++ (room needed (length old) ∷ [])) ≡ holds R.BufferShort = first-then gs (room needed (length old)) h ∙ ap (λ (t : Bool). unless t R.BufferShort) (lt-leb needed (length old) l) in
-      (rw e, rw e)
+  numbers-short : firstOf gs ≡ clear → length old < needed → (D.Refused R.BufferShort ≡ deliveryOf all15) × (old ≡ bufferAfter all15 new old)
+  numbers-short h l = let e = too-short gs needed (length old) h l in (rw e, rw e)
 
   delivered : firstOf gs ≡ clear → needed ≤ length old → length new ≡ needed → (D.Delivered ≡ deliveryOf all15) × (new ++ drop needed old ≡ bufferAfter all15 new old)
-  delivered h l k =
-      let e : firstOf (gs ++ (room needed (length old) ∷ [])) ≡ clear = first-then gs (room needed (length old)) h ∙ ap (λ (t : Bool). unless t R.BufferShort) (le-leb needed (length old) l) in
-      (rw e, rw (e, k))
+  delivered h l k = let e = long-enough gs needed (length old) h l in (rw e, rw (e, k))
 
 -- ---- the counts that passed, and the two lists that a certificate gives
 module _ (b q : List ℕ) (n : Counts) (h : stageOf (countsIn (caseOf b)) (firstOf (grounds b q)) ≡ Passed n) where
   clear-all : firstOf (grounds b q) ≡ clear
-  clear-all = passed-is (countsIn (caseOf b)) n (firstOf (grounds b q)) h .0
+  clear-all = passed-clear (countsIn (caseOf b)) n (firstOf (grounds b q)) h .0
 
   counts-are : n ≡ countsIn (caseOf b)
-  counts-are = passed-is (countsIn (caseOf b)) n (firstOf (grounds b q)) h .1
+  counts-are = passed-clear (countsIn (caseOf b)) n (firstOf (grounds b q)) h .1
 
   prices-needed : n .resources + 4 * n .zones ≡ priceCount (caseOf b)
   prices-needed = rw counts-are
@@ -156,24 +131,24 @@ module _ (b q : List ℕ) (old : List ℤ) where
 
   module _ (w : Refusal) (h : stageOf (countsIn (caseOf b)) (firstOf (grounds b q)) ≡ Refused w) where
     first-is : firstOf (grounds b q) ≡ holds w
-    first-is = refused-is (countsIn (caseOf b)) w (firstOf (grounds b q)) h
+    first-is = refused-holds (countsIn (caseOf b)) w (firstOf (grounds b q)) h
 
     pub prices-refused : Prices (D.Refused w) old
     unfolding priceAnswer priceBuffer priceGrounds
-    prices-refused = refused-before (grounds b q) (priceCount (caseOf b)) (priceList (caseOf b) (certificateOf q .price)) old w first-is
+    prices-refused = numbers-refused (grounds b q) (priceCount (caseOf b)) (priceList (caseOf b) (certificateOf q .price)) old w first-is
 
     pub charges-refused : Charges (D.Refused w) old
     unfolding chargeAnswer chargeBuffer chargeGrounds
-    charges-refused = refused-before (grounds b q) (chargeCount (caseOf b)) (listedCharges b q) old w first-is
+    charges-refused = numbers-refused (grounds b q) (chargeCount (caseOf b)) (listedCharges b q) old w first-is
 
   module _ (n : Counts) (h : stageOf (countsIn (caseOf b)) (firstOf (grounds b q)) ≡ Passed n) where
     pub prices-short : length old < n .resources + 4 * n .zones → Prices (D.Refused R.BufferShort) old
     unfolding priceAnswer priceBuffer priceGrounds
-    prices-short l = too-short (grounds b q) (priceCount (caseOf b)) (priceList (caseOf b) (certificateOf q .price)) old (clear-all b q n h) (omega (arith, prices-needed b q n h))
+    prices-short l = numbers-short (grounds b q) (priceCount (caseOf b)) (priceList (caseOf b) (certificateOf q .price)) old (clear-all b q n h) (omega (arith, prices-needed b q n h))
 
     pub charges-short : length old < 21 + 4 * n .zones + n .flowgates + 19 * n .resources → Charges (D.Refused R.BufferShort) old
     unfolding chargeAnswer chargeBuffer chargeGrounds
-    charges-short l = too-short (grounds b q) (chargeCount (caseOf b)) (listedCharges b q) old (clear-all b q n h) (omega (arith, charges-needed b q n h))
+    charges-short l = numbers-short (grounds b q) (chargeCount (caseOf b)) (listedCharges b q) old (clear-all b q n h) (omega (arith, charges-needed b q n h))
 
     pub prices-written : (out : List ℤ) → n .resources + 4 * n .zones ≤ length old → out ≡ priceList (caseOf b) (certificateOf q .price) ++ drop (priceCount (caseOf b)) old → Prices D.Delivered out
     unfolding priceAnswer priceBuffer priceGrounds

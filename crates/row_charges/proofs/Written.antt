@@ -10,7 +10,7 @@ use Rattle.arith.specs.Sums.{upto, across}
 use Rattle.arith.proofs.Lists.{length-across, length-upto, across-upto, map-upto}
 use Rattle.market.specs.Case.{Case, curves}
 use Rattle.market.specs.Rows.{Row, Balance, Zone, Flowgate, marketRows, zoneRows, flowgateRows, limitRows, rows}
-use Rattle.delivery.proofs.Parts.{write-on, store-on}
+use Rattle.arith.proofs.Buffers.{write-on, store-on}
 
 module _ (h : Row → ℤ) where
   -- ---- blocks of w rows

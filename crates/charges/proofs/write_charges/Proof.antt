@@ -9,7 +9,7 @@ use Rattle.market.specs.Certificate.{certificateOf}
 use Rattle.market.specs.Charges.{rowCharge}
 use Rattle.market.specs.Cost.{priced}
 use Rattle.market.specs.Rows.{rows}
-use Rattle.delivery.proofs.Parts.{write-on}
+use Rattle.arith.proofs.Buffers.{write-on}
 use Rattle.charges.specs.Terms.{chargeIn}
 use Rattle.charges.proofs.Known.{rows-counted, charges-listed}
 use Rattle.charges.proofs.write_charges.Statement.{statement}

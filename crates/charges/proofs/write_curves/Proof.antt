@@ -11,7 +11,7 @@ use Rattle.market.specs.Records.{reservePricesOf, clearedOf}
 use Rattle.market.specs.declared.CurveAmounts.{CurveAmounts}
 use Rattle.market.specs.declared.ReservePrices.{ReservePrices}
 use Rattle.records.proofs.Places.{curve-in}
-use Rattle.delivery.proofs.Parts.{rest-length, write-on}
+use Rattle.arith.proofs.Buffers.{rest-length, write-on}
 use Rattle.charges.specs.Terms.{curveFrom, curveCharges}
 use Rattle.charges.proofs.Known.{curve-fits, curve-read, curves-listed, pair-count}
 use Rattle.charges.proofs.write_curves.Statement.{statement}

@@ -2,7 +2,7 @@
 use mathlib.Core.Path.{refl}
 use native.Mathlib.Omega.{arith}
 use borrow.Author.Needs.{needs}
-use Rattle.delivery.proofs.Parts.{write-on}
+use Rattle.arith.proofs.Buffers.{write-on}
 use Rattle.charges.specs.Terms.{curveCharges}
 use Rattle.charges.proofs.Families.{numbers-count}
 use Rattle.charges.proofs.write_pair.Statement.{statement}

@@ -9,7 +9,7 @@ use borrow.Author.Needs.{needs}
 use Rattle.arith.specs.Sums.{upto, across}
 use Rattle.market.specs.Cost.{curvePriced}
 use Rattle.market.specs.Case.{curves}
-use Rattle.delivery.proofs.Parts.{write-on}
+use Rattle.arith.proofs.Buffers.{write-on}
 use Rattle.charges.specs.Terms.{chargeIn, resourceCharges}
 use Rattle.charges.proofs.Known.{resources-count, all-listed}
 use Rattle.charges.proofs.write_priced_charges.Statement.{statement}

@@ -3,7 +3,7 @@ use native.Mathlib.Omega.{arith}
 use lib.ListN.{length-set}
 use borrow.Author.Needs.{needs}
 use Rattle.arith.proofs.Machine.{read-back}
-use Rattle.delivery.proofs.Parts.{store-front}
+use Rattle.arith.proofs.Buffers.{store-front}
 use Rattle.charges.specs.Terms.{reserveCharges}
 use Rattle.charges.proofs.write_reserves.Statement.{statement}
 use Rattle.charges.proofs.write_reserves.Tie as tie

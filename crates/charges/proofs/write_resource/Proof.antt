@@ -11,7 +11,7 @@ use Rattle.market.specs.Records.{recordOf}
 use Rattle.market.specs.CaseFile.{caseOf}
 use Rattle.records.proofs.Places.{head-in, record-is}
 use Rattle.costs.proofs.Known.{resource-known}
-use Rattle.delivery.proofs.Parts.{rest-length, write-on}
+use Rattle.arith.proofs.Buffers.{rest-length, write-on}
 use Rattle.charges.specs.Terms.{energyCharge, reserveCharges}
 use Rattle.charges.proofs.Families.{numbers-count}
 use Rattle.charges.proofs.Known.{nets-fit, steps-fit, reserves-fit, bounds-fit, resource-listed}

@@ -9,7 +9,7 @@ use borrow.Author.Needs.{needs}
 use borrow.Rule.Slice.PartMut.{same-len-mid}
 use Rattle.arith.proofs.Lists.{across-upto}
 use Rattle.arith.specs.Sums.{upto, across}
-use Rattle.delivery.proofs.Parts.{rest-length, write-on}
+use Rattle.arith.proofs.Buffers.{rest-length, write-on}
 use Rattle.charges.specs.Terms.{resourceCharges}
 use Rattle.charges.proofs.Known.{resources-count}
 use Rattle.charges.proofs.write_resources.Statement.{statement}

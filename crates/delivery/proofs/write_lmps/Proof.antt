@@ -13,7 +13,7 @@ use Rattle.market.specs.Prices.{LMP}
 use Rattle.market.specs.Certificate.{certificateOf}
 use Rattle.market.specs.CaseFile.{caseOf}
 use Rattle.delivery.proofs.Written.{lmp-count}
-use Rattle.delivery.proofs.Parts.{store-on}
+use Rattle.arith.proofs.Buffers.{store-on}
 use Rattle.delivery.proofs.write_lmps.Statement.{statement}
 use Rattle.delivery.proofs.write_lmps.Tie as tie
 

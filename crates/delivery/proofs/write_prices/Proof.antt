@@ -10,7 +10,7 @@ use Rattle.market.specs.Certificate.{certificateOf}
 use Rattle.market.specs.CaseFile.{caseOf}
 use Rattle.records.proofs.Places.{resources-is, zones-is}
 use Rattle.delivery.proofs.Written.{lmp-count, prices-written}
-use Rattle.delivery.proofs.Parts.{write-on}
+use Rattle.arith.proofs.Buffers.{write-on}
 use Rattle.delivery.proofs.write_prices.Statement.{statement}
 use Rattle.delivery.proofs.write_prices.Tie as tie
 

@@ -4,7 +4,7 @@ use lib.ListN.{length-set}
 use borrow.Author.Needs.{needs}
 use Rattle.arith.proofs.Machine.{read-back}
 use Rattle.delivery.specs.Numbers.{numbersOf}
-use Rattle.delivery.proofs.Parts.{store-front}
+use Rattle.arith.proofs.Buffers.{store-front}
 use Rattle.delivery.proofs.write_zone.Statement.{statement}
 use Rattle.delivery.proofs.write_zone.Tie as tie
 

@@ -13,7 +13,7 @@ use Rattle.market.specs.Prices.{zonePrices}
 use Rattle.market.specs.Certificate.{certificateOf}
 use Rattle.prices.specs.ZonePrices.{zonePricesOf}
 use Rattle.delivery.proofs.Written.{zone-count}
-use Rattle.delivery.proofs.Parts.{rest-length, write-on}
+use Rattle.arith.proofs.Buffers.{rest-length, write-on}
 use Rattle.delivery.proofs.write_zones.Statement.{statement}
 use Rattle.delivery.proofs.write_zones.Tie as tie
 

@@ -10,7 +10,7 @@ use Rattle.market.specs.Rows.{Balance}
 use Rattle.records.proofs.Places.{resources-is}
 use Rattle.prices.proofs.Known.{case-ranges, prices-in-range}
 use Rattle.rows.proofs.Known.{energy-bounded}
-use Rattle.delivery.proofs.Parts.{store-front}
+use Rattle.arith.proofs.Buffers.{store-front}
 use Rattle.row_charges.specs.Families.{chargeOf}
 use Rattle.row_charges.proofs.Known.{balance-room, balance-charge}
 use Rattle.row_charges.proofs.write_balance.Statement.{statement}

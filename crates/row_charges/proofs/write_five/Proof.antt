@@ -5,7 +5,7 @@ use borrow.Author.Needs.{needs, sfits-of}
 use mir.Facts.{toZ-ofZ}
 use mir.Syntax.{w64}
 use Rattle.arith.proofs.Magnitudes.{abs-add}
-use Rattle.delivery.proofs.Parts.{store-front}
+use Rattle.arith.proofs.Buffers.{store-front}
 use Rattle.row_charges.specs.Families.{fiveCharges}
 use Rattle.row_charges.proofs.write_five.Statement.{statement}
 use Rattle.row_charges.proofs.write_five.Tie as tie

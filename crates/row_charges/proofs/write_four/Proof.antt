@@ -4,7 +4,7 @@ use lib.ListN.{length-set}
 use borrow.Author.Needs.{needs, sfits-of}
 use mir.Facts.{toZ-ofZ}
 use mir.Syntax.{w64}
-use Rattle.delivery.proofs.Parts.{store-front}
+use Rattle.arith.proofs.Buffers.{store-front}
 use Rattle.row_charges.specs.Families.{fourCharges}
 use Rattle.row_charges.proofs.write_four.Statement.{statement}
 use Rattle.row_charges.proofs.write_four.Tie as tie

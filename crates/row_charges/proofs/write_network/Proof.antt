@@ -7,7 +7,7 @@ use borrow.Author.Needs.{needs}
 use Rattle.market.specs.CaseFile.{caseOf}
 use Rattle.market.specs.Rows.{flowgateRows, limitRows}
 use Rattle.records.proofs.Places.{flowgates-is}
-use Rattle.delivery.proofs.Parts.{write-on}
+use Rattle.arith.proofs.Buffers.{write-on}
 use Rattle.row_charges.specs.Families.{chargeOf}
 use Rattle.row_charges.proofs.Written.{flowgate-count}
 use Rattle.row_charges.proofs.write_network.Statement.{statement}

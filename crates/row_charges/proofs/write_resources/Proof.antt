@@ -10,7 +10,7 @@ use borrow.Author.Needs.{needs}
 use Rattle.arith.specs.Sums.{upto, across}
 use Rattle.market.specs.Rows.{Limited, limits}
 use Rattle.records.proofs.Places.{resources-is}
-use Rattle.delivery.proofs.Parts.{rest-length}
+use Rattle.arith.proofs.Buffers.{rest-length}
 use Rattle.row_charges.specs.Families.{chargeOf}
 use Rattle.row_charges.proofs.Written.{block-written, blocks-done}
 use Rattle.row_charges.proofs.write_resources.Statement.{statement}

@@ -9,7 +9,7 @@ use borrow.Author.Needs.{needs}
 use Rattle.market.specs.CaseFile.{caseOf}
 use Rattle.market.specs.Rows.{Balance, marketRows, zoneRows, flowgateRows, limitRows}
 use Rattle.records.proofs.Places.{zones-is}
-use Rattle.delivery.proofs.Parts.{write-on}
+use Rattle.arith.proofs.Buffers.{write-on}
 use Rattle.row_charges.specs.Families.{chargeOf}
 use Rattle.row_charges.proofs.Written.{zone-count, all-written}
 use Rattle.row_charges.proofs.write_row_charges.Statement.{statement}

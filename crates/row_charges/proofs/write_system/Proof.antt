@@ -4,7 +4,7 @@ use mathlib.Core.Path.{refl}
 use native.Mathlib.Omega.{arith}
 use borrow.Author.Needs.{needs}
 use Rattle.market.specs.Rows.{Balance, marketRows}
-use Rattle.delivery.proofs.Parts.{write-on}
+use Rattle.arith.proofs.Buffers.{write-on}
 use Rattle.row_charges.specs.Families.{chargeOf}
 use Rattle.row_charges.proofs.write_system.Statement.{statement}
 use Rattle.row_charges.proofs.write_system.Tie as tie

@@ -11,7 +11,7 @@ use Rattle.arith.specs.Sums.{upto, across}
 use Rattle.market.specs.Case.{curves}
 use Rattle.market.specs.Rows.{Zone}
 use Rattle.records.proofs.Places.{zones-is}
-use Rattle.delivery.proofs.Parts.{rest-length}
+use Rattle.arith.proofs.Buffers.{rest-length}
 use Rattle.row_charges.specs.Families.{chargeOf}
 use Rattle.row_charges.proofs.Written.{block-written, blocks-done}
 use Rattle.row_charges.proofs.write_zones.Statement.{statement}

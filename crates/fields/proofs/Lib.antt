@@ -1,0 +1,4 @@
+pub mod Entries
+pub mod Tables
+pub mod Places
+pub mod Walk

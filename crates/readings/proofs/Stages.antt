@@ -1,0 +1,109 @@
+-- The grounds of reading but 15: a certificate's by the tests of the code, and what a file past them is.
+use mathlib.Core.Path.{_≡_, refl, sym, _∙_, ap, subst}
+use mathlib.Core.Bool.{Bool, true, false}
+use mathlib.Core.List.{List}
+use Prim.Native.Nat.{ℕ}
+use lib.Dec.{T, eqb, eqb→eq}
+use lib.ListN.{length}
+use Rattle.market.specs.declared.Refusal.{Refusal}
+use Rattle.market.specs.declared.Refusal.the-variants as R
+use Rattle.market.specs.declared.Counts.{Counts}
+use Rattle.market.specs.Bytes.{u8At}
+use Rattle.market.specs.CaseFile.{caseOf}
+use Rattle.market.specs.CaseCheck.{lengthRight, versionRight, countsRight}
+use Rattle.market.specs.Certificate.{certificateSize}
+use Rattle.market.specs.Records.{countsIn}
+use Rattle.market.specs.Refusals.{clear, holds, firstOf}
+use Rattle.market.specs.Numbers.{certificateFileGrounds}
+use Rattle.market.proofs.Grounds.{none-holds, unless-clear}
+use Rattle.market.proofs.FileSizes.{case-fills, certificate-fills}
+use Rattle.cases.specs.declared.Stage.the-variants.{Passed, Refused}
+use Rattle.cases.specs.Stages.{stageOf}
+use Rattle.cases.proofs.Passing.{counts-from, passed-clear, refused-holds, passed-bytes}
+use Rattle.filings.specs.Form.{sizeIs}
+use Rattle.fields.specs.declared.File.{File}
+use Rattle.fields.specs.declared.File.the-variants.{Case, Certificate}
+use Rattle.readings.specs.FileBytes.{FileBytes}
+use Rattle.readings.specs.Reading.{countsOf, groundsOf}
+
+-- the counts of a certificate stand where a case's stand
+pub counts-same : (b : List ℕ) → countsIn (caseOf b) ≡ countsOf b
+unfolding caseOf
+counts-same b = refl
+
+-- ---- 8, 9, 3, 11, each where the earlier ones have passed
+module _ (q : List ℕ) where
+  pub by-length : lengthRight 44 q ≡ false → Refused R.CertificateLength ≡ stageOf (countsOf q) (firstOf (certificateFileGrounds q))
+  unfolding certificateFileGrounds firstOf
+  by-length h = rw h
+
+  pub by-version : lengthRight 44 q ≡ true → versionRight q ≡ false → Refused R.CertificateVersion ≡ stageOf (countsOf q) (firstOf (certificateFileGrounds q))
+  unfolding certificateFileGrounds firstOf
+  by-version h k = rw (h, k)
+
+  module _ (n : Counts) (e : n ≡ countsIn (caseOf q)) where
+    counts-are : countsRight (n .resources) (n .zones) (n .flowgates) ≡ countsRight (u8At q 5) (u8At q 6) (u8At q 7)
+    counts-are = ap (λ (m : Counts). countsRight (m .resources) (m .zones) (m .flowgates)) (e ∙ counts-same q)
+
+    size-is : sizeIs q n ≡ eqb (length q) (certificateSize (u8At q 5) (u8At q 6) (u8At q 7))
+    unfolding sizeIs
+    size-is = ap (sizeIs q) (e ∙ counts-same q)
+
+    pub by-counts : lengthRight 44 q ≡ true → versionRight q ≡ true → countsRight (n .resources) (n .zones) (n .flowgates) ≡ false → Refused R.Counts ≡ stageOf (countsOf q) (firstOf (certificateFileGrounds q))
+    unfolding certificateFileGrounds firstOf
+    by-counts h k l = rw (h, k, sym counts-are ∙ l)
+
+    pub by-size : lengthRight 44 q ≡ true → versionRight q ≡ true → countsRight (n .resources) (n .zones) (n .flowgates) ≡ true → sizeIs q n ≡ false → Refused R.CertificateSize ≡ stageOf (countsOf q) (firstOf (certificateFileGrounds q))
+    unfolding certificateFileGrounds firstOf
+    by-size h k l m = rw (h, k, sym counts-are ∙ l, sym size-is ∙ m)
+
+    pub by-none : lengthRight 44 q ≡ true → versionRight q ≡ true → countsRight (n .resources) (n .zones) (n .flowgates) ≡ true → sizeIs q n ≡ true → Passed n ≡ stageOf (countsOf q) (firstOf (certificateFileGrounds q))
+    unfolding certificateFileGrounds firstOf
+    by-none h k l m = rw (h, k, sym counts-are ∙ l, sym size-is ∙ m, e ∙ counts-same q)
+
+-- ---- a file past them
+is-true : (t : Bool) → T t → t ≡ true
+is-true true h = refl
+is-true false h = absurd h
+
+past : (file : File) (b : List ℕ) → firstOf (groundsOf file b) ≡ clear → FileBytes file b (u8At b 5) (u8At b 6) (u8At b 7)
+unfolding caseOf certificateFileGrounds
+past Case b h =
+    let c = passed-bytes b (countsIn (caseOf b)) (ap (stageOf (countsIn (caseOf b))) h) in
+    record {
+      resources = refl;
+      zones = refl;
+      flowgates = refl;
+      most-resources = c .most-resources;
+      most-zones = c .most-zones;
+      most-flowgates = c .most-flowgates;
+      filled = c .size ∙ sym (case-fills (u8At b 5) (u8At b 6) (u8At b 7));
+    }
+past Certificate b h =
+    let clear = none-holds (certificateFileGrounds b) h in
+    let counts = countsRight (u8At b 5) (u8At b 6) (u8At b 7) in
+    let most = counts-from (u8At b 5) (u8At b 6) (u8At b 7) (is-true counts (unless-clear counts R.Counts (clear .1 .1 .0))) in
+    let size = unless-clear (eqb (length b) (certificateSize (u8At b 5) (u8At b 6) (u8At b 7))) R.CertificateSize (clear .1 .1 .1 .0) in
+    record {
+      resources = refl;
+      zones = refl;
+      flowgates = refl;
+      most-resources = most .0;
+      most-zones = most .1;
+      most-flowgates = most .2;
+      filled = eqb→eq (length b) (certificateSize (u8At b 5) (u8At b 6) (u8At b 7)) size ∙ sym (certificate-fills (u8At b 5) (u8At b 6) (u8At b 7));
+    }
+
+-- what the stages' answer tells
+module _ (file : File) (b : List ℕ) where
+  -- with these counts
+  abbrev pub Past : Counts → Type 0
+  Past n = (firstOf (groundsOf file b) ≡ clear) × (n ≡ countsOf b) × FileBytes file b (n .resources) (n .zones) (n .flowgates)
+
+  pub passed : (n : Counts) → stageOf (countsOf b) (firstOf (groundsOf file b)) ≡ Passed n → Past n
+  passed n h =
+      let p = passed-clear (countsOf b) n (firstOf (groundsOf file b)) h in
+      (p .0, p .1, subst (λ (m : Counts). FileBytes file b (m .resources) (m .zones) (m .flowgates)) (sym (p .1)) (past file b (p .0)))
+
+  pub refused : (w : Refusal) → stageOf (countsOf b) (firstOf (groundsOf file b)) ≡ Refused w → firstOf (groundsOf file b) ≡ holds w
+  refused w h = refused-holds (countsOf b) w (firstOf (groundsOf file b)) h

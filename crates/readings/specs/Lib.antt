@@ -1,0 +1,2 @@
+pub mod FileBytes
+pub mod Reading
