@@ -48,7 +48,7 @@ pub fn number_at(b: &[u8], at: usize, field: Field) -> i64
     }
 }
 
-fn within(v: i64, low: i64, high: i64) -> bool
+pub fn within(v: i64, low: i64, high: i64) -> bool
     ensures { λ t. ⌜ t ≡ withinℤ low high v ⌝ }
 {
     if v < low {

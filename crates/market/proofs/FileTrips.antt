@@ -10,15 +10,15 @@ use lib.IntN.{ℤ}
 use lib.ListN.{length, drop, take, length-drop}
 use lib.Seq.{split-at, take-all}
 use Rattle.arith.specs.Sums.{totalOf}
-use Rattle.arith.proofs.Lists.{and-split, and-join, each-drop}
+use Rattle.arith.proofs.Lists.{and-split, and-join, each-drop, each-split}
 use Rattle.market.specs.declared.Refusal.{Refusal}
 use Rattle.market.specs.declared.Refusal.the-variants.{Counts, NumberList}
 use Rattle.market.specs.Bytes.{u8At, u32At, within}
 use Rattle.market.specs.CaseCheck.{mostResources, mostZones, mostFlowgates, lengthRight, versionRight, countsRight}
-use Rattle.market.specs.Refusals.{Finding, unless, AllClear}
+use Rattle.market.specs.Refusals.{Finding, clear, unless, firstOf, AllClear}
 use Rattle.market.specs.Numbers.{Field, u8, fieldWidth, fieldAt, u32Bytes, numbersAt, bytesOf, numbersFit, fileOf, FieldsOf, numbersOf, countIn, countsInRange, fieldsFor, fileFor, listGrounds}
 use Rattle.market.specs.RoundTrips.{AreBytes}
-use Rattle.market.proofs.Grounds.{unless-clear, clear-unless}
+use Rattle.market.proofs.Grounds.{none-holds, all-clear, unless-clear, clear-unless}
 use Rattle.market.proofs.FieldBytes.{u32-value, u32-bytes}
 use Rattle.market.proofs.FieldLists.{numbers-length, numbers-part, bytes-length, numbers-read, numbers-fit, numbers-written}
 
@@ -117,9 +117,9 @@ module _ (K : FileKind) where
     filled : length b ≡ 5 + totalOf fieldWidth (byCounts (K .fields) b)
 
   -- then, and only then, is the file refused on none of the first four grounds
-  right-clear : (b : List ℕ) → Right b → AllClear (K .further b) → AllClear (fileGrounds b)
-  unfolding fileGrounds lengthRight versionRight
-  right-clear b h more =
+  right-first : (b : List ℕ) → Right b → firstOf (fileGrounds b) ≡ firstOf (K .further b)
+  unfolding firstOf fileGrounds lengthRight versionRight
+  right-first b h =
       let filled : length b ≡ byCounts (K .size) b = h .filled ∙ K .fills (u8At b 5) (u8At b 6) (u8At b 7) in
       let long : K .least ≤ length b = omega (arith, K .at-least (u8At b 5) (u8At b 6) (u8At b 7)) in
       let said = and-join (leb (K .least) (length b)) (eqb (u32At b 0 + 4) (length b)) (le→leb (K .least) (length b) long) (eq→eqb (h .says)) in
@@ -127,7 +127,7 @@ module _ (K : FileKind) where
       let version-clear = clear-unless (versionRight b) (K .wrongVersion) (eq→eqb (h .version)) in
       let counts-clear = clear-unless (byCounts countsRight b) Counts (h .counts) in
       let size-clear = clear-unless (eqb (length b) (byCounts (K .size) b)) (K .wrongSize) (eq→eqb filled) in
-      (length-clear, (version-clear, (counts-clear, (size-clear, more))))
+      rw (length-clear, version-clear, counts-clear, size-clear)
 
   clear-right : (b : List ℕ) → AllClear (fileGrounds b) → Right b
   unfolding fileGrounds lengthRight versionRight
@@ -141,11 +141,11 @@ module _ (K : FileKind) where
         filled = eqb→eq (length b) (byCounts (K .size) b) size ∙ sym (K .fills (u8At b 5) (u8At b 6) (u8At b 7));
       }
 
-  -- numbers that may be written: their file is valid and reads as them
-  pub written-valid : (vs : List ℤ) → AllClear (numberGrounds vs) →
-      AllClear (fileGrounds (fileFor (K .fields) vs)) × (numbersOf (K .fields) (fileFor (K .fields) vs) ≡ vs)
-  unfolding numberGrounds listGrounds fieldsFor fileFor fileOf numbersOf
-  written-valid vs h =
+  -- numbers that a list may hold: their file is refused on none of the first four grounds and reads as them
+  pub written-first : (vs : List ℤ) → AllClear (listGrounds (K .fields) vs) →
+      (firstOf (fileGrounds (fileFor (K .fields) vs)) ≡ firstOf (K .further (fileFor (K .fields) vs))) × (numbersOf (K .fields) (fileFor (K .fields) vs) ≡ vs)
+  unfolding listGrounds fieldsFor fileFor fileOf numbersOf
+  written-first vs h =
       let fs = fieldsFor (K .fields) vs in
       let b = fileOf fs vs in
       let first : CountsFirst fs = K .counts-first (countIn vs 0) (countIn vs 1) (countIn vs 2) in
@@ -159,7 +159,17 @@ module _ (K : FileKind) where
       let total : 1 + totalOf fieldWidth fs < 4294967296 = omega (arith, file-length fs vs fits, K .fills (u8At b 5) (u8At b 6) (u8At b 7)) in
       let says : u32At b 0 + 4 ≡ length b = omega (arith, length-field fs vs total, file-length fs vs fits) in
       let right : Right b = record { says = says; version = refl; counts = counts; filled = filled } in
-      (right-clear b right (h .1 .1 .1), ap (λ (gs : List Field). numbersAt gs b 5) (sym same) ∙ read)
+      (right-first b right, ap (λ (gs : List Field). numbersAt gs b 5) (sym same) ∙ read)
+
+  -- numbers that may be written: their file is valid and reads as them
+  pub written-valid : (vs : List ℤ) → AllClear (numberGrounds vs) →
+      AllClear (fileGrounds (fileFor (K .fields) vs)) × (numbersOf (K .fields) (fileFor (K .fields) vs) ≡ vs)
+  unfolding numberGrounds
+  written-valid vs h =
+      let b = fileFor (K .fields) vs in
+      let parts = each-split (λ g. g ≡ clear) (listGrounds (K .fields) vs) (K .further b) h in
+      let w = written-first vs (parts .0) in
+      (none-holds (fileGrounds b) (w .0 ∙ all-clear (K .further b) (parts .1)), w .1)
 
   -- a valid file's numbers may be written, and give that file
   pub valid-written : (b : List ℕ) → AreBytes b → AllClear (fileGrounds b) →

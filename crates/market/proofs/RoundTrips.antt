@@ -16,11 +16,11 @@ use Rattle.market.specs.CaseCheck.{caseSizeRight, fieldsInRange, stepsRu
 use Rattle.market.specs.Certificate.{certificateSize}
 use Rattle.market.specs.Refusals.{Finding, clear, holds, unless, firstOf, transferOf, bufferAfter, AllClear}
 use Rattle.market.specs.Outcome.{caseGrounds, room}
-use Rattle.market.specs.Numbers.{caseFields, certificateFields, numbersOf, caseNumbers, certificateNumbers, certificateFileGrounds, readCaseGrounds, readCertificateGrounds, readCase, readCertificate, readCaseBuffer, readCertificateBuffer, fileFor, listGrounds, writeCaseGrounds, writeCertificateGrounds, writeCase, writeCertificate, writeCaseBuffer, writeCertificateBuffer}
+use Rattle.market.specs.Numbers.{caseFields, certificateFields, numbersOf, caseNumbers, certificateNumbers, certificateFileGrounds, caseFile, fieldGrounds, readCaseGrounds, readCertificateGrounds, readCase, readCertificate, readCaseBuffer, readCertificateBuffer, fileFor, listGrounds, writeCaseGrounds, writeCertificateGrounds, writeCase, writeCertificate, writeCaseBuffer, writeCertificateBuffer}
 use Rattle.market.specs.RoundTrips.{RoundTrip, RoundTrips}
 use Rattle.market.proofs.Grounds.{none-holds, all-clear, clear-unless}
 use Rattle.market.proofs.FileSizes.{case-count, certificate-count, case-fills, certificate-fills}
-use Rattle.market.proofs.FileTrips.{CountsFirst, FileKind, fileGrounds, numberGrounds, written-valid, valid-written}
+use Rattle.market.proofs.FileTrips.{CountsFirst, FileKind, fileGrounds, numberGrounds, written-first, written-valid, valid-written}
 
 -- an answer of success, for a list of m elements
 written-clear : (m n : ℕ) (g : Finding) → transferOf m g ≡ Written n → (g ≡ clear) × (m ≡ n)
@@ -91,11 +91,7 @@ cases =
       wrongLength = CaseLength;
       wrongVersion = CaseVersion;
       wrongSize = CaseSize;
-      further = λ b.
-          unless (fieldsInRange (caseOf b)) FieldRange
-          ∷ unless (stepsRule (caseOf b)) StepRule
-          ∷ unless (limitsOrdered (caseOf b)) LimitPair
-          ∷ [];
+      further = fieldGrounds;
       counts-first = case-counts-first;
       fills = case-fills;
       at-least = λ r z f. omega arith;
@@ -121,6 +117,11 @@ certificates =
 case-trip : RoundTrip caseGrounds caseNumbers readCase readCaseBuffer writeCase writeCaseBuffer
 unfolding caseOf caseSizeRight caseGrounds fileGrounds numberGrounds listGrounds readCaseGrounds readCase readCaseBuffer writeCaseGrounds writeCase writeCaseBuffer
 case-trip = round-trip cases
+
+-- the file of numbers that a list may hold is refused, if at all, on 5, 6 or 7
+pub case-filed : (vs : List ℤ) → AllClear (listGrounds caseFields vs) → (firstOf (caseGrounds (caseFile vs)) ≡ firstOf (fieldGrounds (caseFile vs))) × (caseNumbers (caseFile vs) ≡ vs)
+unfolding caseOf caseSizeRight caseGrounds fileGrounds
+case-filed vs h = written-first cases vs h
 
 certificate-trip : RoundTrip certificateFileGrounds certificateNumbers readCertificate readCertificateBuffer writeCertificate writeCertificateBuffer
 unfolding certificateFileGrounds fileGrounds numberGrounds listGrounds readCertificateGrounds readCertificate readCertificateBuffer writeCertificateGrounds writeCertificate writeCertificateBuffer

@@ -176,14 +176,15 @@ abbrev pub certificateFile : List ℤ → List ℕ
 certificateFile = fileFor certificateFields
 
 -- for a case 5, 6, 7, of the file that is to be written; then 15, with a lent buffer of n bytes
+abbrev pub fieldGrounds : List ℕ → List Finding
+fieldGrounds b =
+    unless (fieldsInRange (caseOf b)) FieldRange
+    ∷ unless (stepsRule (caseOf b)) StepRule
+    ∷ unless (limitsOrdered (caseOf b)) LimitPair
+    ∷ []
+
 unfoldable pub writeCaseGrounds : List ℤ → ℕ → List Finding
-writeCaseGrounds vs n =
-    listGrounds caseFields vs
-    ++ (unless (fieldsInRange (caseOf (caseFile vs))) FieldRange
-    ∷ unless (stepsRule (caseOf (caseFile vs))) StepRule
-    ∷ unless (limitsOrdered (caseOf (caseFile vs))) LimitPair
-    ∷ room (length (caseFile vs)) n
-    ∷ [])
+writeCaseGrounds vs n = listGrounds caseFields vs ++ (fieldGrounds (caseFile vs) ++ (room (length (caseFile vs)) n ∷ []))
 
 unfoldable pub writeCertificateGrounds : List ℤ → ℕ → List Finding
 writeCertificateGrounds vs n = listGrounds certificateFields vs ++ (room (length (certificateFile vs)) n ∷ [])

@@ -1,0 +1,156 @@
+-- The grounds of writing but 15: those of the list by the tests of the code, what a list past them is, and that those of
+-- its case file are 5, 6 and 7.
+use mathlib.Core.Path.{_≡_, refl, sym, _∙_, ap, subst}
+use mathlib.Core.Bool.{true, false, _&&_}
+use mathlib.Core.List.{List, [], _∷_, _++_}
+use Prim.Native.Nat.{ℕ, _<_, _≤_}
+use native.Mathlib.Omega.{arith}
+use lib.Dec.{T}
+use lib.IntN.{ℤ, pos, negsuc, natAbs}
+use lib.ListN.{length, getD}
+use lib.Signed.{leZ}
+use borrow.Author.Tests.{le-leb, lt-leb}
+use Rattle.arith.proofs.Lists.{and-split}
+use Rattle.arith.proofs.Order.{zl}
+use Rattle.market.specs.declared.Refusal.{Refusal}
+use Rattle.market.specs.declared.Counts.{Counts}
+use Rattle.market.specs.Bytes.{withinℤ}
+use Rattle.market.specs.CaseFile.{caseOf}
+use Rattle.market.specs.CaseCheck.{mostResources, mostZones, mostFlowgates}
+use Rattle.market.specs.Records.{countsIn}
+use Rattle.market.specs.Refusals.{Finding, clear, holds, firstOf}
+use Rattle.market.specs.Outcome.{caseGrounds}
+use Rattle.market.specs.Numbers.{fieldAt, numbersAt, numbersFit, caseFields, numbersOf, caseNumbers, countIn, countsInRange, fieldsFor, caseFile, listGrounds}
+use Rattle.market.proofs.Grounds.{none-holds, unless-clear}
+use Rattle.market.proofs.RoundTrips.{case-filed}
+use Rattle.market.specs.declared.Refusal.the-variants as R
+use Rattle.cases.specs.declared.Stage.the-variants.{Passed, Refused}
+use Rattle.cases.specs.Stages.{stageOf}
+use Rattle.cases.proofs.Passing.{passed-clear, refused-holds}
+use Rattle.fields.specs.declared.File.{File}
+use Rattle.fields.specs.declared.File.the-variants.{Case}
+use Rattle.fields.specs.Layout.{fieldsOf}
+use Rattle.writings.specs.Listed.{Listed}
+use Rattle.writings.specs.Writing.{countsOf, groundsOf, furtherGrounds}
+use Rattle.writings.proofs.Fitting.{is-true, to-high}
+
+-- ---- R, Z and F
+count-from : (low high : ℕ) (v : ℤ) → T (withinℤ (pos low) (pos high) v) → (leZ (pos 0) v ≡ true) × (natAbs v ≤ high)
+count-from low high (pos n) t = let h = to-high (pos low) (pos high) (pos n) (is-true (withinℤ (pos low) (pos high) (pos n)) t) in (le-leb 0 n (omega arith), omega zl)
+count-from low high (negsuc n) t = absurd (and-split (leZ (pos low) (negsuc n)) (leZ (negsuc n) (pos high)) t .0)
+
+-- whether they are in range, test by test
+module _ (vs : List ℤ) where
+  pub resources-out : withinℤ (pos 1) (pos 64) (getD vs 0 (pos 0)) ≡ false → false ≡ countsInRange vs
+  unfolding countsInRange
+  resources-out r = rw r
+
+  pub zones-out : withinℤ (pos 1) (pos 64) (getD vs 0 (pos 0)) ≡ true → withinℤ (pos 1) (pos 8) (getD vs 1 (pos 0)) ≡ false → false ≡ countsInRange vs
+  unfolding countsInRange
+  zones-out r z = rw (r, z)
+
+  pub flowgates-left : withinℤ (pos 1) (pos 64) (getD vs 0 (pos 0)) ≡ true → withinℤ (pos 1) (pos 8) (getD vs 1 (pos 0)) ≡ true → withinℤ (pos 0) (pos 16) (getD vs 2 (pos 0)) ≡ countsInRange vs
+  unfolding countsInRange
+  flowgates-left r z = rw (r, z)
+
+-- counts in range: from 0 on, and at most so many
+pub counts-from : (vs : List ℤ) → countsInRange vs ≡ true
+    → ((leZ (pos 0) (getD vs 0 (pos 0)) ≡ true) × (countIn vs 0 ≤ 64)) × ((leZ (pos 0) (getD vs 1 (pos 0)) ≡ true) × (countIn vs 1 ≤ 8)) × ((leZ (pos 0) (getD vs 2 (pos 0)) ≡ true) × (countIn vs 2 ≤ 16))
+unfolding countsInRange
+counts-from vs e =
+    let r = withinℤ (pos 1) (pos mostResources) (getD vs 0 (pos 0)) in
+    let z = withinℤ (pos 1) (pos mostZones) (getD vs 1 (pos 0)) in
+    let f = withinℤ (pos 0) (pos mostFlowgates) (getD vs 2 (pos 0)) in
+    let all = and-split (r && z) f (subst T (sym e) tt) in
+    let two = and-split r z (all .0) in
+    (count-from 1 64 (getD vs 0 (pos 0)) (two .0), count-from 1 8 (getD vs 1 (pos 0)) (two .1), count-from 0 16 (getD vs 2 (pos 0)) (all .1))
+
+-- ---- 16, 3, 16, each where the earlier ones have passed
+module _ (file : File) (vs : List ℤ) where
+  pub by-few : length vs < 3 → Refused R.NumberList ≡ stageOf (countsOf vs) (firstOf (listGrounds (fieldsOf file) vs))
+  unfolding listGrounds firstOf
+  by-few l = rw (lt-leb 3 (length vs) l)
+
+  pub by-counts : 3 ≤ length vs → countsInRange vs ≡ false → Refused R.Counts ≡ stageOf (countsOf vs) (firstOf (listGrounds (fieldsOf file) vs))
+  unfolding listGrounds firstOf
+  by-counts l h = rw (le-leb 3 (length vs) l, h)
+
+  module _ (r z f : ℕ) (er : r ≡ countIn vs 0) (ez : z ≡ countIn vs 1) (ef : f ≡ countIn vs 2) where
+    fit-is : numbersFit (fieldsOf file r z f) vs ≡ numbersFit (fieldsFor (fieldsOf file) vs) vs
+    unfolding fieldsFor
+    fit-is = rw (er, ez, ef)
+
+    pub by-numbers : 3 ≤ length vs → countsInRange vs ≡ true → numbersFit (fieldsOf file r z f) vs ≡ false → Refused R.NumberList ≡ stageOf (countsOf vs) (firstOf (listGrounds (fieldsOf file) vs))
+    unfolding listGrounds firstOf
+    by-numbers l h k = rw (le-leb 3 (length vs) l, h, sym fit-is ∙ k)
+
+    pub by-none : 3 ≤ length vs → countsInRange vs ≡ true → numbersFit (fieldsOf file r z f) vs ≡ true → Passed (record { resources = r; zones = z; flowgates = f }) ≡ stageOf (countsOf vs) (firstOf (listGrounds (fieldsOf file) vs))
+    unfolding listGrounds firstOf
+    by-none l h k = rw (le-leb 3 (length vs) l, h, sym fit-is ∙ k, er, ez, ef)
+
+-- ---- a list past them
+listed : (file : File) (vs : List ℤ) → firstOf (listGrounds (fieldsOf file) vs) ≡ clear → Listed file vs (countIn vs 0) (countIn vs 1) (countIn vs 2)
+unfolding listGrounds fieldsFor
+listed file vs h =
+    let clear = none-holds (listGrounds (fieldsOf file) vs) h in
+    let most = counts-from vs (is-true (countsInRange vs) (unless-clear (countsInRange vs) R.Counts (clear .1 .0))) in
+    let fits = numbersFit (fieldsFor (fieldsOf file) vs) vs in
+    record {
+      resources = refl;
+      zones = refl;
+      flowgates = refl;
+      most-resources = most .0 .1;
+      most-zones = most .1 .1;
+      most-flowgates = most .2 .1;
+      fit = is-true fits (unless-clear fits R.NumberList (clear .1 .1 .0));
+      none-holds = h;
+    }
+
+-- ---- two lists of grounds, one behind the other
+first-later : (gs hs : List Finding) → firstOf gs ≡ clear → firstOf (gs ++ hs) ≡ firstOf hs
+unfolding firstOf
+first-later [] hs h = refl
+first-later (clear ∷ gs) hs h = first-later gs hs h
+first-later (holds r ∷ gs) hs h = absurd (let z : _≡_ {A = ℕ} 0 1 = cc in omega arith)
+
+first-earlier : (gs hs : List Finding) (r : Refusal) → firstOf gs ≡ holds r → firstOf (gs ++ hs) ≡ holds r
+unfolding firstOf
+first-earlier [] hs r h = absurd (let z : _≡_ {A = ℕ} 0 1 = cc in omega arith)
+first-earlier (clear ∷ gs) hs r h = first-earlier gs hs r h
+first-earlier (holds s ∷ gs) hs r h = h
+
+earlier-clear : (gs hs : List Finding) → firstOf (gs ++ hs) ≡ clear → firstOf gs ≡ clear
+unfolding firstOf
+earlier-clear [] hs h = refl
+earlier-clear (clear ∷ gs) hs h = earlier-clear gs hs h
+earlier-clear (holds s ∷ gs) hs h = h
+
+-- ---- what the stages' answers tell
+module _ (file : File) (vs : List ℤ) where
+  pub list-passed : (n : Counts) → stageOf (countsOf vs) (firstOf (listGrounds (fieldsOf file) vs)) ≡ Passed n → Listed file vs (n .resources) (n .zones) (n .flowgates)
+  list-passed n h =
+      let p = passed-clear (countsOf vs) n (firstOf (listGrounds (fieldsOf file) vs)) h in
+      subst (λ (m : Counts). Listed file vs (m .resources) (m .zones) (m .flowgates)) (sym (p .1)) (listed file vs (p .0))
+
+  pub list-refused : (w : Refusal) → stageOf (countsOf vs) (firstOf (listGrounds (fieldsOf file) vs)) ≡ Refused w → Refused w ≡ stageOf (countsOf vs) (firstOf (groundsOf file vs))
+  list-refused w h = sym (ap (stageOf (countsOf vs)) (first-earlier (listGrounds (fieldsOf file) vs) _ w (refused-holds (countsOf vs) w (firstOf (listGrounds (fieldsOf file) vs)) h)))
+
+  pub passed : (n : Counts) → stageOf (countsOf vs) (firstOf (groundsOf file vs)) ≡ Passed n → (firstOf (groundsOf file vs) ≡ clear) × Listed file vs (n .resources) (n .zones) (n .flowgates)
+  passed n h =
+      let p = passed-clear (countsOf vs) n (firstOf (groundsOf file vs)) h in
+      (p .0, subst (λ (m : Counts). Listed file vs (m .resources) (m .zones) (m .flowgates)) (sym (p .1)) (listed file vs (earlier-clear (listGrounds (fieldsOf file) vs) _ (p .0))))
+
+  pub refused : (w : Refusal) → stageOf (countsOf vs) (firstOf (groundsOf file vs)) ≡ Refused w → firstOf (groundsOf file vs) ≡ holds w
+  refused w h = refused-holds (countsOf vs) w (firstOf (groundsOf file vs)) h
+
+-- ---- the case file of a list past 16, 3, 16
+-- its counts are the list's first three numbers
+counts-read : (b : List ℕ) → countsOf (caseNumbers b) ≡ countsIn (caseOf b)
+unfolding caseOf numbersOf numbersAt fieldAt caseFields
+counts-read b = refl
+
+pub filed : (vs : List ℤ) → firstOf (listGrounds caseFields vs) ≡ clear → stageOf (countsIn (caseOf (caseFile vs))) (firstOf (caseGrounds (caseFile vs))) ≡ stageOf (countsOf vs) (firstOf (groundsOf Case vs))
+filed vs h =
+    let w = case-filed vs (none-holds (listGrounds caseFields vs) h) in
+    let counts : countsIn (caseOf (caseFile vs)) ≡ countsOf vs = sym (counts-read (caseFile vs)) ∙ ap countsOf (w .1) in
+    rw (counts, w .0, first-later (listGrounds caseFields vs) (furtherGrounds Case (caseFile vs)) h)
