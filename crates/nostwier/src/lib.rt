@@ -1,14 +1,17 @@
 // The functions that C hosts call (include/nostwier.h): thin, each over the proved function of its crate.
 ghost use mathlib.Core.Path.{_≡_};
 ghost use lib.ListN.{length};
-ghost use Rattle.market.specs.Refusals.{caseNumberOf, answerOf};
+ghost use Rattle.market.specs.Refusals.{caseNumberOf, answerOf, countOf};
 ghost use Rattle.market.specs.Outcome.{caseAnswer, priceAnswer, priceBuffer, chargeAnswer, chargeBuffer};
+ghost use Rattle.market.specs.Numbers.{readCase, readCaseBuffer, readCertificate, readCertificateBuffer, writeCase, writeCaseBuffer, writeCertificate, writeCertificateBuffer};
 ghost use Rattle.nostwier.specs.Reported.{Reported};
 use market::Answer;
 use market::CaseAnswer;
 use market::CheckResult;
+use market::Count;
 use market::Delivery;
 use market::Outcome;
+use market::Transfer;
 
 // 0 for a valid case, else the number of its refusal.
 #[no_mangle]
@@ -46,12 +49,11 @@ pub extern "C" fn nostwier_check_certificate(c: &[u8], q: &[u8]) -> CheckResult
     }
 }
 
-// R LMPs and four prices a zone, from the buffer's start on; the rest of it, and all of it on a refusal, stays as it was.
-#[no_mangle]
-pub extern "C" fn nostwier_prices(c: &[u8], q: &[u8], out: &mut [i64]) -> Answer
-    ensures { λ r. ⌜ (r ≡ answerOf (priceAnswer (now (c .entry)) (now (q .entry)) (length (now (out .entry))))) × (now (out .exit) ≡ priceBuffer (now (c .entry)) (now (q .entry)) (now (out .entry))) ⌝ }
+// ---- numbers into a lent buffer
+
+fn answered(answer: Delivery) -> Answer
+    ensures { λ r. ⌜ r ≡ answerOf answer ⌝ }
 {
-    let answer = outcomes::deliver_prices(c, q, out);
     match answer {
         Delivery::Delivered => Answer {
             refusal: 0,
@@ -64,20 +66,73 @@ pub extern "C" fn nostwier_prices(c: &[u8], q: &[u8], out: &mut [i64]) -> Answer
     }
 }
 
+// R LMPs and four prices a zone, from the buffer's start on; the rest of it, and all of it on a refusal, stays as it was.
+#[no_mangle]
+pub extern "C" fn nostwier_prices(c: &[u8], q: &[u8], out: &mut [i64]) -> Answer
+    ensures { λ r. ⌜ (r ≡ answerOf (priceAnswer (now (c .entry)) (now (q .entry)) (length (now (out .entry))))) × (now (out .exit) ≡ priceBuffer (now (c .entry)) (now (q .entry)) (now (out .entry))) ⌝ }
+{
+    let answer = outcomes::deliver_prices(c, q, out);
+    answered(answer)
+}
+
 // 21 + 4Z + F + 19R charges, from the buffer's start on; the rest of it, and all of it on a refusal, stays as it was.
 #[no_mangle]
 pub extern "C" fn nostwier_charges(c: &[u8], q: &[u8], out: &mut [i64]) -> Answer
     ensures { λ r. ⌜ (r ≡ answerOf (chargeAnswer (now (c .entry)) (now (q .entry)) (length (now (out .entry))))) × (now (out .exit) ≡ chargeBuffer (now (c .entry)) (now (q .entry)) (now (out .entry))) ⌝ }
 {
     let answer = outcomes::deliver_charges(c, q, out);
+    answered(answer)
+}
+
+// ---- numbers out of files, and into files
+
+fn counted(answer: Transfer) -> Count
+    ensures { λ r. ⌜ r ≡ countOf answer ⌝ }
+{
     match answer {
-        Delivery::Delivered => Answer {
+        Transfer::Written(n) => Count {
             refusal: 0,
-            place: 0,
+            count: n,
         },
-        Delivery::Refused(why) => Answer {
+        Transfer::Refused(why) => Count {
             refusal: why.number(),
-            place: why.place(),
+            count: 0,
         },
     }
+}
+
+// A case's numbers, every field but length and version in order.
+#[no_mangle]
+pub extern "C" fn nostwier_read_case(c: &[u8], out: &mut [i64]) -> Count
+    ensures { λ r. ⌜ (r ≡ countOf (readCase (now (c .entry)) (length (now (out .entry))))) × (now (out .exit) ≡ readCaseBuffer (now (c .entry)) (now (out .entry))) ⌝ }
+{
+    let answer = readings::read_case(c, out);
+    counted(answer)
+}
+
+// A certificate's numbers.
+#[no_mangle]
+pub extern "C" fn nostwier_read_certificate(q: &[u8], out: &mut [i64]) -> Count
+    ensures { λ r. ⌜ (r ≡ countOf (readCertificate (now (q .entry)) (length (now (out .entry))))) × (now (out .exit) ≡ readCertificateBuffer (now (q .entry)) (now (out .entry))) ⌝ }
+{
+    let answer = readings::read_certificate(q, out);
+    counted(answer)
+}
+
+// The case whose numbers are v.
+#[no_mangle]
+pub extern "C" fn nostwier_write_case(v: &[i64], out: &mut [u8]) -> Count
+    ensures { λ r. ⌜ (r ≡ countOf (writeCase (now (v .entry)) (length (now (out .entry))))) × (now (out .exit) ≡ writeCaseBuffer (now (v .entry)) (now (out .entry))) ⌝ }
+{
+    let answer = writings::write_case(v, out);
+    counted(answer)
+}
+
+// The certificate whose numbers are v.
+#[no_mangle]
+pub extern "C" fn nostwier_write_certificate(v: &[i64], out: &mut [u8]) -> Count
+    ensures { λ r. ⌜ (r ≡ countOf (writeCertificate (now (v .entry)) (length (now (out .entry))))) × (now (out .exit) ≡ writeCertificateBuffer (now (v .entry)) (now (out .entry))) ⌝ }
+{
+    let answer = writings::write_certificate(v, out);
+    counted(answer)
 }
