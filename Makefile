@@ -1,11 +1,22 @@
-.PHONY: help test check lib soak fmt survey
+.PHONY: help test check lib shared install demo soak fmt survey
 
 N ?= 1000000
+PREFIX ?= /usr/local
+DESTDIR ?=
+INSTALL ?= install
+
+# The static library is what rt proves and compiles; the shared one is made from it and has nothing more.
+static_library = target/staticlib/libnostwier.a
+shared_library = target/lib/libnostwier.so.1
+headers = include/nostwier.h include/nostwier_refusals.h
+version = $(shell sed -n 's/^.define NOSTWIER_VERSION "\(.*\)"$$/\1/p' include/nostwier.h)
 
 help:
+	@echo 'make demo    prove and build the program, run it on the shipped example and explain what it prints'
 	@echo 'make test    run every test: the proofs of all crates from nothing, then tests/*/run'
 	@echo 'make check   prove the crates that have changed, and run the programs'
-	@echo 'make lib     prove the library and write target/staticlib/libnostwier.a, for C hosts (include/nostwier.h)'
+	@echo 'make lib     prove the library and write target/staticlib/libnostwier.a and target/lib/libnostwier.so'
+	@echo 'make install put headers, both libraries and nostwier.pc below DESTDIR and PREFIX=/usr/local'
 	@echo 'make soak    a C host against the reference on N=1000000 calls of each operation, from a seed that it prints'
 	@echo 'make survey  try plausible wrong definitions, which the theorems must refuse (20 minutes)'
 	@echo 'make fmt     lay out the .rt and .antt files under crates/'
@@ -21,6 +32,34 @@ fmt:
 
 lib:
 	rt staticlib nostwier
+	@$(MAKE) --no-print-directory shared
+
+# Both libraries, from what is proved already if it is there.
+shared: $(shared_library)
+
+$(static_library):
+	rt staticlib nostwier
+
+$(shared_library): $(static_library) packaging/nostwier.map
+	mkdir -p target/lib
+	$(CC) -shared -nostartfiles -o $@ -Wl,-soname,libnostwier.so.1 -Wl,--version-script=packaging/nostwier.map \
+	    -Wl,--whole-archive $(static_library) -Wl,--no-whole-archive \
+	    -Wl,--as-needed -Wl,-z,defs -Wl,-z,relro -Wl,-z,now -Wl,-z,noexecstack
+	ln -sf libnostwier.so.1 target/lib/libnostwier.so
+
+install: shared
+	$(INSTALL) -d '$(DESTDIR)$(PREFIX)/include' '$(DESTDIR)$(PREFIX)/lib/pkgconfig'
+	$(INSTALL) -m 644 $(headers) '$(DESTDIR)$(PREFIX)/include'
+	$(INSTALL) -m 644 $(static_library) '$(DESTDIR)$(PREFIX)/lib'
+	$(INSTALL) -m 755 $(shared_library) '$(DESTDIR)$(PREFIX)/lib'
+	ln -sf libnostwier.so.1 '$(DESTDIR)$(PREFIX)/lib/libnostwier.so'
+	sed -e 's|@PREFIX@|$(PREFIX)|' -e 's|@VERSION@|$(version)|' packaging/nostwier.pc.in \
+	    >'$(DESTDIR)$(PREFIX)/lib/pkgconfig/nostwier.pc'
+
+demo:
+	rt check nostwier_cli
+	@$(MAKE) --no-print-directory lib
+	@examples/demo
 
 soak: lib
 	tests/host/run "$$(date +%s)" $(N)
