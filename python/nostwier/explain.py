@@ -1,0 +1,47 @@
+"""An accepted certificate in words: what it costs, how far from the least that may be, and where the gap comes from."""
+
+from . import calls
+from .labels import Names, listed_charges
+from .library import Counts
+from .records import Certificate
+from .units import dollars
+
+
+def explain(case, certificate, names=Names(), most=None):
+    """The text for a case and a certificate, given as bytes; refused as the check is. Charges of 0 are not listed; of the
+    others at most so many."""
+    result = calls.check_certificate(case, certificate)
+    counts = Counts.of_file(case)
+    charges = [charge for charge in listed_charges(counts, calls.charges(case, certificate), names) if charge.grains]
+    row_prices = Certificate.from_bytes(certificate).prices_of_rows()
+
+    lines = [f"{'':5} {'dollars of an interval':>24} {'grains':>24}"]
+    for name, grains in zip(result._fields, result):
+        lines.append(f"{name:5} {dollars(grains, 9):>24,f} {grains:>24,}")
+    lines.append("")
+    if not charges:
+        lines.append("No schedule of this case is cheaper than this one: the gap is 0, and so is every charge.")
+        return "\n".join(lines) + "\n"
+    lines.append(f"No schedule of this case is cheaper than this one by more than ${dollars(result.gap, 6, 'up'):,f} (rounded up).")
+    lines.append(f"The gap is the sum of the charges; those above 0 are {len(charges)}, largest first:")
+    lines.append("")
+    lines.append(f"{'dollars':>24} {'share':>7}  charge of")
+    for charge in charges[:most]:
+        label = charge.label + _slack(counts, charge, row_prices)
+        lines.append(f"{dollars(charge.grains, 9):>24,f} {100 * charge.grains / result.gap:>6.1f}%  {label}")
+    if most is not None and len(charges) > most:
+        rest = sum(charge.grains for charge in charges[most:])
+        lines.append(f"{dollars(rest, 9):>24,f} {100 * rest / result.gap:>6.1f}%  {len(charges) - most} smaller ones")
+    return "\n".join(lines) + "\n"
+
+
+def _slack(counts, charge, row_prices):
+    """Of a row's charge: the price and slack that it is the product of."""
+    if charge.number > counts.rows:
+        return ""
+    price = row_prices[charge.number - 1]
+    slack = charge.grains // price
+    first_flowgate = 6 + 4 * counts.zones
+    if first_flowgate <= charge.number < first_flowgate + counts.flowgates:  # in thousandths of a kW, at a price in cents
+        return f": {slack / 1000:,.3f} kW of slack at {price / 100:,.2f} $/MWh"
+    return f": {slack:,} kW of slack at {price / 100_000:,.5f} $/MWh"
