@@ -92,7 +92,7 @@ def _look(answer, case):
     where = ""
     if answer.refusal in (13, 14):  # the case is valid then
         labels = (quantity_labels if answer.refusal == 13 else row_labels)(Counts.of_file(case))
-        where = labels[answer.place - 1]
+        where = labels[answer.place - 1] if 0 < answer.place <= len(labels) else ""
     raise Refused(answer.refusal, answer.place, where)
 
 

@@ -57,3 +57,48 @@ nostwier_answer nostwier_charges(const uint8_t *c, size_t cn, const uint8_t *q, 
         memmove(out + 1, out, (n - 1) * sizeof *out);
     return answer;
 }
+
+typedef nostwier_count reader(const uint8_t *, size_t, int64_t *, size_t);
+typedef nostwier_count writer(const int64_t *, size_t, uint8_t *, size_t);
+
+nostwier_count nostwier_read_case(const uint8_t *c, size_t cn, int64_t *out, size_t n)
+{
+    reader *next;
+    behind(&next, "nostwier_read_case");
+    nostwier_count count = next(c, cn, out, n);
+    if (fault("number") && count.refusal == 0)
+        out[3]++;
+    return count;
+}
+
+nostwier_count nostwier_read_certificate(const uint8_t *q, size_t qn, int64_t *out, size_t n)
+{
+    reader *next;
+    behind(&next, "nostwier_read_certificate");
+    nostwier_count count = next(q, qn, out, n);
+    if (fault("fewer-numbers") && count.refusal == 0)
+        count.count--;
+    return count;
+}
+
+nostwier_count nostwier_write_case(const int64_t *v, size_t n, uint8_t *out, size_t len)
+{
+    writer *next;
+    behind(&next, "nostwier_write_case");
+    nostwier_count count = next(v, n, out, len);
+    if (fault("byte") && count.refusal == 0)
+        out[11] ^= 1;
+    if (fault("refusal") && count.refusal == 6)
+        count.refusal = 5;
+    return count;
+}
+
+nostwier_count nostwier_write_certificate(const int64_t *v, size_t n, uint8_t *out, size_t len)
+{
+    writer *next;
+    behind(&next, "nostwier_write_certificate");
+    nostwier_count count = next(v, n, out, len);
+    if (fault("certificate-byte") && count.refusal == 0)
+        out[count.count - 1] ^= 1;
+    return count;
+}
