@@ -2,7 +2,7 @@
 
 import sys
 
-from .explain import explain
+from .explain import cite, explain
 from .labels import Names
 from .library import LibraryMissing
 from .records import Case, Certificate, Misfiled
@@ -14,6 +14,7 @@ Usage: python3 -m nostwier COMMAND ...
   explain CASE CERT [--names SOURCE] [--most N]
                                   check a certificate; print cost, bound and gap in dollars, and the charges that make up
                                   the gap, largest first (N of them), with names out of the case's JSON source
+  cite CASE CERT                  check a certificate and print the sentence to publish, with what identifies the files
   write-case SOURCE CASE          make a case file of a JSON source
   write-certificate SOURCE CERT   make a certificate file of a JSON source
   read-case CASE                  print a case file as JSON
@@ -69,6 +70,11 @@ def _explain(words):
     return explain(_read(case), _read(certificate), names, None if most is None else int(most))
 
 
+def _cite(words):
+    case, certificate = _paths("cite", words)
+    return cite(_read(case), _read(certificate))
+
+
 def _paths(command, words, count=2):
     if len(words) != count or any(word.startswith("--") for word in words):
         raise Misuse(f"{command} takes {count} file{'s' if count > 1 else ''}; see --help")
@@ -94,6 +100,7 @@ def _show(record):
 
 COMMANDS = {
     "explain": _explain,
+    "cite": _cite,
     "write-case": _make(Case),
     "write-certificate": _make(Certificate),
     "read-case": _show(Case),

@@ -1,8 +1,10 @@
 """An accepted certificate in words: what it costs, how far from the least that may be, and where the gap comes from."""
 
+import hashlib
+
 from . import calls
 from .labels import Names, listed_charges
-from .library import Counts
+from .library import VERSION, Counts
 from .records import Certificate
 from .units import dollars
 
@@ -33,6 +35,20 @@ def explain(case, certificate, names=Names(), most=None):
         rest = sum(charge.grains for charge in charges[most:])
         lines.append(f"{dollars(rest, 9):>24,f} {100 * rest / result.gap:>6.1f}%  {len(charges) - most} smaller ones")
     return "\n".join(lines) + "\n"
+
+
+def cite(case, certificate):
+    """The sentence to publish of an accepted certificate, with what identifies the two files; refused as the check is."""
+    result = calls.check_certificate(case, certificate)
+    cost = dollars(result.cost)
+    sign = "-" if cost < 0 else ""
+    return (
+        f"The schedule costs {sign}${abs(cost):,f} in the five-minute interval, and no schedule of the case, in whole kilowatts\n"
+        f"within its limits and rows, is cheaper by more than ${dollars(result.gap, 6, 'up'):,f} (rounded up).\n"
+        f"Checked by Nostwier {VERSION}.\n"
+        f"Case SHA-256 {hashlib.sha256(case).hexdigest()}\n"
+        f"Certificate SHA-256 {hashlib.sha256(certificate).hexdigest()}\n"
+    )
 
 
 def _slack(counts, charge, row_prices):

@@ -6,6 +6,7 @@ import os
 from pathlib import Path
 from typing import NamedTuple
 
+VERSION = "1.0.0"  # of the interface: NOSTWIER_VERSION of nostwier.h
 VARIABLE = "NOSTWIER_LIBRARY"
 SONAME = "libnostwier.so.1"
 BUILD_TREE = Path(__file__).resolve().parents[2] / "target" / "lib" / SONAME
@@ -96,9 +97,14 @@ def candidates():
     """Where the library is looked for, in order: the environment alone if it names one, else the build tree and the system."""
     named = os.environ.get(VARIABLE)
     if named:
-        return [named]
+        yield named
+        return
+    if BUILD_TREE.exists():
+        yield str(BUILD_TREE)
+    yield SONAME
     found = ctypes.util.find_library("nostwier")
-    return ([str(BUILD_TREE)] if BUILD_TREE.exists() else []) + ([found] if found else []) + [SONAME]
+    if found and found != SONAME:
+        yield found
 
 
 def load():

@@ -9,6 +9,7 @@ tests/library/sizes.c. With --answers only the library's answers are compared. L
 import copy
 import ctypes
 import ctypes.util
+import hashlib
 import json
 import os
 import subprocess
@@ -358,6 +359,13 @@ def commands():
     check("the rest of the charges is summed up", status == 0 and "2 smaller ones" in output and "row 20, resource 1: e <= HI" in output)
     same("a gap of 0", explain(*pairs["worked-a"]).splitlines()[-1],
          "No schedule of this case is cheaper than this one: the gap is 0, and so is every charge.")
+    status, output, errors = run("cite", case, certificate)
+    check(f"the sentence to publish: {output}", status == 0 and all(words in output for words in (
+        "costs -$18,845.297440 in", "more than $0.002348 (rounded up)", f"Nostwier {library.VERSION}.",
+        hashlib.sha256(case.read_bytes()).hexdigest(), hashlib.sha256(certificate.read_bytes()).hexdigest())))
+    same("the sentence for a refused pair", run("cite", case, case)[:2], (1, ""))
+    header = (TOP / "include" / "nostwier.h").read_text(encoding="utf-8")
+    check("the version is the header's", f'#define NOSTWIER_VERSION "{library.VERSION}"\n' in header)
     status, output, errors = run("explain", case, case)
     check(f"a refused pair: {errors}", status == 1 and output == "" and "refused 11: the certificate" in errors)
     for words in (("explain", case), ("explain", case, certificate, "--names"), ("explain", case, case, "--most", "x"), ("nothing",), (),
