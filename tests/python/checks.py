@@ -269,6 +269,61 @@ def records():
                 lambda r, d, pair=pair: r.update({pair: {"minimum": 2, "maximum": 1}}))
 
 
+def order():
+    """Fields that all differ stand in the file in the paper's order, which is written out here."""
+    step = lambda width, price: {"width": width, "price": price}
+    case = nostwier.Case.from_dict({
+        "demand": 1001,
+        "reserves": {
+            "short_term": {"multiplier": 1006, "minutes": 7, "share": 10, "requirement": 1013},
+            "regulating": {"multiplier": 1004, "minutes": 5, "share": 8, "requirement": 1011},
+            "contingency": {"multiplier": 1002, "minutes": 3, "share": 9, "requirement": 1012},
+        },
+        "curves": {
+            "short_term": [step(1020, 620), step(1021, 619)], "regulating": [step(1018, 618)],
+            "regulating_plus_spinning": [step(1016, 616)], "operating": [step(1014, 615), step(1015, 614), step(1, 3), step(2, 1)],
+        },
+        "zones": [{"short_term": 1034, "regulating": 1033, "regulating_plus_spinning": 1032, "operating": 1031},
+                  {"short_term": 1038, "regulating": 1037, "regulating_plus_spinning": 1036, "operating": 1035}],
+        "resources": [{
+            "kind": "external_asynchronous", "zone": 2, "breaker": "closed", "status": ["available", "on_line_supplemental"],
+            "minutes_since_trip": 44, "flags": ["spinning", "off_line_supplemental", "self_scheduled", "on_line_short_term"],
+            "estimated_output": -1050, "economic": {"minimum": 1051, "maximum": 1052},
+            "regulating": {"minimum": 1053, "maximum": 1054}, "emergency": {"minimum": 1055, "maximum": 1056},
+            "ramp_up": 1057, "ramp_down": 1058, "ramp_rate": 1059, "initial_energy": 1060, "off_line_response_limit": 1061,
+            "off_line_short_term_limit": 1062, "self_schedule": 1063, "regulating_price": 1064, "contingency_price": 1065,
+            "off_line_short_term_price": 1066, "energy_steps": [step(1070, -1071), step(1072, 1073)],
+        }],
+        "flowgates": [{"limit": -1080, "shift_factors": [-81]}, {"limit": 1082, "shift_factors": [83]}],
+    })
+    none = [0, 0]
+    same("the order of a case", nostwier.read_case(case.to_bytes()), [
+        1, 2, 2, 1001, 1002, 3, 1004, 5, 1006, 7, 8, 9, 10, 1011, 1012, 1013,
+        1014, 615, 1015, 614, 1, 3, 2, 1, 1016, 616, *none * 3, 1018, 618, *none * 3, 1020, 620, 1021, 619, *none * 2,
+        1031, 1032, 1033, 1034, 1035, 1036, 1037, 1038,
+        3, 2, 1, 10, 44, 166, -1050, 1051, 1052, 1053, 1054, 1055, 1056, 1057, 1058, 1059, 1060, 1061, 1062, 1063, 1064, 1065, 1066,
+        1070, -1071, 1072, 1073, *none * 8, -1080, -81, 1082, 83])
+    certificate = nostwier.Certificate.from_dict({
+        "cleared": {"short_term": 14, "regulating": 13, "regulating_plus_spinning": 12, "operating": 11},
+        "row_prices": {
+            "flowgates": [28, 29], "energy": -15, "market": {"short_term": 19, "regulating": 18, "regulating_plus_spinning": 17, "operating": 16},
+            "zones": [{"short_term": 23, "regulating": 22, "regulating_plus_spinning": 21, "operating": 20},
+                      {"short_term": 27, "regulating": 26, "regulating_plus_spinning": 25, "operating": 24}],
+        },
+        "resources": [{"o": 34, "s": 33, "c": 32, "g": 31, "e": 30, "row_prices": {
+            "e >= LO": 39, "e <= HI": 38, "e-g >= MIN": 37, "e+s <= MAX": 36, "e+g+c <= MAX": 35}}],
+    })
+    same("the order of a certificate", nostwier.read_certificate(certificate.to_bytes()), [1, 2, 2, 11, 12, 13, 14, -15, *range(16, 40)])
+    same("the prices of its rows", certificate.prices_of_rows(), [-15, *range(16, 30), *range(35, 40)])
+    # Every bit by its name.
+    for names, bits in ((nostwier.Status, "committed available active_schedule on_line_supplemental"),
+                        (nostwier.Flags, "regulating spinning off_line_supplemental off_line_short_term emergency_maximum_released "
+                                         "self_scheduled emergency_minimum_released on_line_short_term")):
+        same(f"the bits of {names.__name__}", [(bit.name, bit.value) for bit in names], [(name, 1 << i) for i, name in enumerate(bits.split())])
+    same("the kinds", [(kind.name, kind.value) for kind in nostwier.Kind],
+         [("conventional", 1), ("intermittent", 2), ("external_asynchronous", 3)])
+
+
 def ranges():
     """Past an end of its range each field is refused, and named; at its ends it is not refused for that."""
     case = nostwier.Case.from_bytes(pairs["small"][0])
@@ -410,7 +465,7 @@ def finding():
 answers()
 if not ANSWERS_ALONE:
     check("accepted pairs", len(accepted) >= 20)
-    for part in (refusals, records, ranges, labels, units, commands, finding):
+    for part in (refusals, records, order, ranges, labels, units, commands, finding):
         part()
 print(f"{passed} passed, {failed} failed")
 sys.exit(0 if passed and not failed else 1)
