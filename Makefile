@@ -32,7 +32,7 @@ fmt:
 
 lib:
 	rt staticlib nostwier
-	@$(MAKE) --no-print-directory shared
+	@$(MAKE) -s shared
 
 # Both libraries, from what is proved already if it is there.
 shared: $(shared_library)
@@ -58,7 +58,7 @@ install: shared
 
 demo:
 	rt check nostwier_cli
-	@$(MAKE) --no-print-directory lib
+	@$(MAKE) -s lib
 	@examples/demo
 
 soak: lib
