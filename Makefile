@@ -1,4 +1,4 @@
-.PHONY: help test check lib shared install demo soak fmt survey
+.PHONY: help test check lib shared install demo soak fmt survey bench
 
 N ?= 1000000
 PREFIX ?= /usr/local
@@ -18,6 +18,7 @@ help:
 	@echo 'make lib     prove the library and write target/staticlib/libnostwier.a and target/lib/libnostwier.so'
 	@echo 'make install put headers, both libraries and nostwier.pc below DESTDIR and PREFIX=/usr/local'
 	@echo 'make soak    a C host against the reference on N=1000000 calls of each operation, from a seed that it prints'
+	@echo 'make bench   times of the library beside a baseline in C, the reference and solvers (docs/BENCHMARKS.md)'
 	@echo 'make survey  try plausible wrong definitions, which the theorems must refuse (20 minutes)'
 	@echo 'make fmt     lay out the .rt and .antt files under crates/'
 
@@ -63,6 +64,9 @@ demo:
 
 soak: lib
 	tests/host/run "$$(date +%s)" $(N)
+
+bench: lib
+	bench/run
 
 survey:
 	cd tests/survey && python3 survey.py
