@@ -39,7 +39,7 @@ impl Shape {
     }
 
     /// Sets one field of a file, unless the file ends before it.
-    fn set(&self, file: &mut [u8], index: usize, number: i64) {
+    pub fn set(&self, file: &mut [u8], index: usize, number: i64) {
         let size = self.fields[index].width.size();
         let place = self.places[index];
         if let Some(bytes) = file.get_mut(place..place + size) {

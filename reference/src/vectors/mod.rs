@@ -18,7 +18,7 @@
 //! | those items | i64s, for writers bytes |
 
 mod draw;
-mod harm;
+pub mod harm;
 
 pub use draw::{corpus_calls, Files, Source};
 

@@ -1,0 +1,121 @@
+/* The library gone wrong in one way, to see that the fuzzer finds it and makes it small: linked with --wrap, these functions
+ * stand between the host and the library. The environment names the fault (FAULT). The faults are misreadings of the paper
+ * that show only in some cases. */
+#include "nostwier.h"
+
+#include <stdlib.h>
+#include <string.h>
+
+enum { MOST = 1 << 16, HEAD = 170, RESOURCE = 154 };
+
+static int fault(const char *name)
+{
+    const char *chosen = getenv("FAULT");
+    return chosen != NULL && strcmp(chosen, name) == 0;
+}
+
+/* The case as a wrong reader would see it; the certificate and the answer are left alone. */
+static const uint8_t *misread(const uint8_t *c, size_t cn)
+{
+    static uint8_t seen[MOST];
+    if (cn < HEAD || cn > MOST || cn < HEAD + 16u * c[6] + RESOURCE * (size_t)c[5])
+        return c;
+    memcpy(seen, c, cn);
+    for (uint8_t *at = seen + HEAD + 16 * c[6], *end = at + RESOURCE * c[5]; at < end; at += RESOURCE) {
+        if (fault("certificate:trip-of-15-minutes-is-over") && at[4] == 15)
+            at[4] = 16;
+        if (fault("certificate:regulating-limits-before-emergency-ones") && (at[5] & 1) != 0)
+            at[5] &= (uint8_t)~16;
+        if (fault("certificate:nine-energy-steps"))
+            memset(at + 74 + 9 * 8, 0, 8);
+    }
+    return seen;
+}
+
+uint32_t __real_nostwier_check_case(const uint8_t *c, size_t cn);
+uint32_t __wrap_nostwier_check_case(const uint8_t *c, size_t cn);
+
+uint32_t __wrap_nostwier_check_case(const uint8_t *c, size_t cn)
+{
+    static uint8_t seen[MOST];
+    if (!fault("case:last-byte-unread") || cn == 0 || cn > MOST)
+        return __real_nostwier_check_case(c, cn);
+    memcpy(seen, c, cn);
+    seen[cn - 1] = 0;
+    return __real_nostwier_check_case(seen, cn);
+}
+
+#ifdef NOSTWIER_HAS_CERTIFICATE
+nostwier_result __real_nostwier_check_certificate(const uint8_t *c, size_t cn, const uint8_t *q, size_t qn);
+nostwier_result __wrap_nostwier_check_certificate(const uint8_t *c, size_t cn, const uint8_t *q, size_t qn);
+
+nostwier_result __wrap_nostwier_check_certificate(const uint8_t *c, size_t cn, const uint8_t *q, size_t qn)
+{
+    return __real_nostwier_check_certificate(misread(c, cn), cn, q, qn);
+}
+
+typedef nostwier_answer list(const uint8_t *c, size_t cn, const uint8_t *q, size_t qn, int64_t *out, size_t n);
+list __real_nostwier_prices, __wrap_nostwier_prices;
+
+nostwier_answer __wrap_nostwier_prices(const uint8_t *c, size_t cn, const uint8_t *q, size_t qn, int64_t *out, size_t n)
+{
+    nostwier_answer answer = __real_nostwier_prices(c, cn, q, qn, out, n);
+    if (fault("prices:no-price-is-negative") && answer.refusal == 0)
+        for (size_t i = 0; i < c[5]; i++)
+            out[i] = out[i] < 0 ? 0 : out[i];
+    return answer;
+}
+#endif
+
+#ifdef NOSTWIER_HAS_CHARGES
+list __real_nostwier_charges, __wrap_nostwier_charges;
+
+nostwier_answer __wrap_nostwier_charges(const uint8_t *c, size_t cn, const uint8_t *q, size_t qn, int64_t *out, size_t n)
+{
+    nostwier_answer answer = __real_nostwier_charges(c, cn, q, qn, out, n);
+    if (fault("charges:none-for-the-last-resource") && answer.refusal == 0)
+        out[4 + 4 * c[6] + c[7] + 19 * c[5]] = 0;
+    return answer;
+}
+#endif
+
+#ifdef NOSTWIER_HAS_NUMBERS
+typedef nostwier_count reader(const uint8_t *file, size_t length, int64_t *out, size_t n);
+typedef nostwier_count writer(const int64_t *v, size_t n, uint8_t *out, size_t length);
+reader __real_nostwier_read_case, __wrap_nostwier_read_case;
+reader __real_nostwier_read_certificate, __wrap_nostwier_read_certificate;
+writer __real_nostwier_write_case, __wrap_nostwier_write_case;
+writer __real_nostwier_write_certificate, __wrap_nostwier_write_certificate;
+
+nostwier_count __wrap_nostwier_read_case(const uint8_t *file, size_t length, int64_t *out, size_t n)
+{
+    nostwier_count count = __real_nostwier_read_case(file, length, out, n);
+    if (fault("read-case:factors-have-no-sign") && count.refusal == 0 && out[2] > 0 && out[count.count - 1] < 0)
+        out[count.count - 1] += 65536;
+    return count;
+}
+
+nostwier_count __wrap_nostwier_read_certificate(const uint8_t *file, size_t length, int64_t *out, size_t n)
+{
+    nostwier_count count = __real_nostwier_read_certificate(file, length, out, n);
+    if (fault("read-certificate:price-of-row-1-has-no-sign") && count.refusal == 0 && out[7] < 0)
+        out[7] += (int64_t)1 << 32;
+    return count;
+}
+
+nostwier_count __wrap_nostwier_write_case(const int64_t *v, size_t n, uint8_t *out, size_t length)
+{
+    nostwier_count count = __real_nostwier_write_case(v, n, out, length);
+    if (fault("write-case:order-of-refusals") && count.refusal == 5)
+        count.refusal = 6;
+    return count;
+}
+
+nostwier_count __wrap_nostwier_write_certificate(const int64_t *v, size_t n, uint8_t *out, size_t length)
+{
+    nostwier_count count = __real_nostwier_write_certificate(v, n, out, length);
+    if (fault("write-certificate:one-byte-too-few-is-enough") && count.refusal == 15 && v[2] == 0)
+        count.refusal = 0;
+    return count;
+}
+#endif
