@@ -1,15 +1,4 @@
-.PHONY: help test check lib shared install demo soak fmt survey bench
-
-N ?= 1000000
-PREFIX ?= /usr/local
-DESTDIR ?=
-INSTALL ?= install
-
-# The static library is what rt proves and compiles; the shared one is made from it and has nothing more.
-static_library = target/staticlib/libnostwier.a
-shared_library = target/lib/libnostwier.so.1
-headers = include/nostwier.h include/nostwier_refusals.h
-version = $(shell sed -n 's/^.define NOSTWIER_VERSION "\(.*\)"$$/\1/p' include/nostwier.h)
+.PHONY: help test check lib shared install demo soak fmt survey bench N ?= 1000000 PREFIX /usr/local DESTDIR INSTALL # The static library is what rt proves and compiles; the one made from it has nothing more. static_library = target/staticlib/libnostwier.a shared_library target/lib/libnostwier.so.1 headers include/nostwier.h include/nostwier_refusals.h version $(shell sed -n 's/^.define NOSTWIER_VERSION "\(.*\)"$$/\1/p' include/nostwier.h) fuzz SECONDS 60
 
 help:
 	@echo 'make demo    prove and build the program, run it on the shipped example and explain what it prints'
@@ -18,6 +7,7 @@ help:
 	@echo 'make lib     prove the library and write target/staticlib/libnostwier.a and target/lib/libnostwier.so'
 	@echo 'make install put headers, both libraries and nostwier.pc below DESTDIR and PREFIX=/usr/local'
 	@echo 'make soak    a C host against the reference on N=1000000 calls of each operation, from a seed that it prints'
+	@echo 'make fuzz    mutated inputs against the reference for SECONDS=60, from a seed that it prints; what differs is shrunk'
 	@echo 'make bench   times of the library beside a baseline in C, the reference and solvers (docs/BENCHMARKS.md)'
 	@echo 'make survey  try plausible wrong definitions, which the theorems must refuse (20 minutes)'
 	@echo 'make fmt     lay out the .rt and .antt files under crates/'
@@ -64,6 +54,9 @@ demo:
 
 soak: lib
 	tests/host/run "$$(date +%s)" $(N)
+
+fuzz: lib
+	tests/fuzz/run $(SECONDS) "$$(date +%s)"
 
 bench: lib
 	bench/run

@@ -242,8 +242,19 @@ static times times_of(samples *all)
     return (times){all->of[all->count / 2], all->of[(all->count - 1) * 99 / 100]};
 }
 
-/* The implementations take turns on every input, until the first has its samples or the time is up. The reference is slow,
- * and is called in one round of many. */
+/* Brings an input into the nearest cache, so that it does not matter who is called on it first. */
+static void touch(const input *in)
+{
+    static volatile uint8_t last;
+    for (size_t i = 0; i < in->cn; i += 32)
+        last = in->c[i];
+    for (size_t i = 0; i < in->qn; i += 32)
+        last = in->q[i];
+    (void)last;
+}
+
+/* The implementations take turns on every input, first one way round and then the other, until the baseline has its samples
+ * or the time is up. The reference is slow, and is called in one round of many. */
 static void measure(const inputs *all, enum call call, int makers, double budget, times out[MAKERS])
 {
     static samples taken[MAKERS];
@@ -253,9 +264,11 @@ static void measure(const inputs *all, enum call call, int makers, double budget
     lend(ROOM);
     for (int round = 0; round < 3 || (now() < until && taken[BASELINE].count < MOST_SAMPLES); round++)
         for (int i = 0; i < all->count; i++)
-            for (int maker = 0; maker < makers; maker++) {
+            for (int turn = 0; turn < makers; turn++) {
+                int maker = round % 2 == 0 ? turn : makers - 1 - turn;
                 if (runs[maker][call] == NULL || (maker == REFERENCE && round % 16 != 0))
                     continue;
+                touch(&all->of[i]);
                 double start = now();
                 runs[maker][call](&all->of[i]);
                 double end = now();

@@ -86,11 +86,11 @@ fn told(line: &str, records: &[(usize, Vec<u8>)]) -> Option<Result<Difference, S
     Some(place.map(|(place, _)| (*place, why.to_string())).ok_or(format!("the host says '{line}'")))
 }
 
-/// Runs a program for a minute at most. It may end before it has read everything.
+/// Runs a program for 20 seconds at most. It may end before it has read everything.
 fn run(program: &Path, input: &[u8]) -> Result<Output, String> {
     let fault = |error| format!("cannot run {}: {error}", program.display());
     let mut child = Command::new("timeout")
-        .args(["-s", "KILL", "60"])
+        .args(["-s", "KILL", "20"])
         .arg(program)
         .stdin(Stdio::piped())
         .stdout(Stdio::piped())
