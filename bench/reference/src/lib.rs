@@ -39,9 +39,7 @@ pub unsafe extern "C" fn reference_check_certificate(
     qn: usize,
 ) -> CheckResult {
     match check_certificate(from_raw_parts(c, cn), from_raw_parts(q, qn)) {
-        Ok(all) => {
-            CheckResult { answer: SUCCESS, cost: all.cost, bound: all.bound, gap: all.gap }
-        }
+        Ok(all) => CheckResult { answer: SUCCESS, cost: all.cost, bound: all.bound, gap: all.gap },
         Err(failure) => CheckResult { answer: refused(failure), cost: 0, bound: 0, gap: 0 },
     }
 }

@@ -84,12 +84,17 @@ fn pairs(directory: &Path) -> Result<Vec<Files>, String> {
         }
     }
     cases.sort();
-    let file = |path: &Path| std::fs::read(path).map_err(|error| format!("{}: {error}", path.display()));
+    let file =
+        |path: &Path| std::fs::read(path).map_err(|error| format!("{}: {error}", path.display()));
     let pairs: Result<Vec<Files>, String> = cases
         .iter()
-        .map(|path| Ok(Files { case: file(path)?, certificate: file(&path.with_extension("cert"))? }))
+        .map(|path| {
+            Ok(Files { case: file(path)?, certificate: file(&path.with_extension("cert"))? })
+        })
         .collect();
-    pairs.and_then(|list| if list.is_empty() { Err("the corpus is empty".to_string()) } else { Ok(list) })
+    pairs.and_then(
+        |list| if list.is_empty() { Err("the corpus is empty".to_string()) } else { Ok(list) },
+    )
 }
 
 /// The number of differences.

@@ -71,7 +71,8 @@ impl Mutator {
             Call::WriteCase { .. } => layout::case_fields,
             _ => layout::certificate_fields,
         };
-        if let Call::WriteCase { numbers, .. } | Call::WriteCertificate { numbers, .. } = &mut call {
+        if let Call::WriteCase { numbers, .. } | Call::WriteCertificate { numbers, .. } = &mut call
+        {
             if let Some(shape) = counts_of(numbers).map(|counts| Shape::new(counts, fields)) {
                 for _ in 0..self.random.between(0, 3) {
                     harm_numbers(&mut self.random, &shape, numbers);
@@ -101,7 +102,8 @@ impl Mutator {
                 } else {
                     (&mut files.certificate, layout::certificate_fields)
                 };
-                let Some(shape) = layout::announced_counts(file).map(|it| Shape::new(it, fields)) else {
+                let Some(shape) = layout::announced_counts(file).map(|it| Shape::new(it, fields))
+                else {
                     return;
                 };
                 if random.percent(75) {
@@ -116,7 +118,9 @@ impl Mutator {
                     shape.set_prices(random, &mut files.certificate);
                 }
             }
-            15 => files.certificate = self.seeds[random.index(self.seeds.len())].certificate.clone(),
+            15 => {
+                files.certificate = self.seeds[random.index(self.seeds.len())].certificate.clone()
+            }
             // Needs the meaning of the case, and is slow for large ones.
             _ if counts.is_some() => {
                 if let Ok(accepted) = accept(&files.case, &files.certificate) {

@@ -38,7 +38,8 @@ fn walk(
     while from < changes.len() && Instant::now() < end {
         let to = (from + count).min(changes.len());
         let size = size_of(&best.0);
-        let places: Vec<usize> = (from..to).filter(|place| size_of(&changes[*place]) < size).collect();
+        let places: Vec<usize> =
+            (from..to).filter(|place| size_of(&changes[*place]) < size).collect();
         let batch: Vec<Trial> = places.iter().map(|place| changes[*place].clone()).collect();
         if let Some((index, why)) = subject.differences(&batch)?.into_iter().next() {
             let length = changes.len();
@@ -62,7 +63,8 @@ fn size_of(trial: &Trial) -> (usize, u64, u64) {
     let of_numbers = |f: fn(u64) -> u64| -> u64 {
         trial.numbers.iter().map(|number| f(number.unsigned_abs())).sum()
     };
-    let shown = files.iter().filter(|byte| **byte != 0).count() as u64 + of_numbers(|it| u64::from(it != 0));
+    let shown = files.iter().filter(|byte| **byte != 0).count() as u64
+        + of_numbers(|it| u64::from(it != 0));
     let large = files.iter().map(|byte| u64::from(*byte)).sum::<u64>()
         + of_numbers(|it| u64::from(64 - it.leading_zeros()));
     (lent, shown, large)
@@ -154,7 +156,11 @@ impl Figures {
         out.counts.zones = self.counts.zones.checked_sub(1).filter(|left| *left > 0)?;
         for i in (0..self.counts.resources).filter(|_| self.is_case) {
             let its = &mut out.numbers[self.resource(i) + 1];
-            *its = if *its > zone as i64 + 1 || *its > out.counts.zones as i64 { *its - 1 } else { *its };
+            *its = if *its > zone as i64 + 1 || *its > out.counts.zones as i64 {
+                *its - 1
+            } else {
+                *its
+            };
         }
         let from = if self.is_case { CASE.0 } else { CERTIFICATE.0 } + 4 * zone;
         out.numbers.drain(from..from + 4);
@@ -240,7 +246,8 @@ fn parts(trial: &Trial) -> Vec<Trial> {
             if let [Some(case), Some(certificate)] = &both {
                 if let (Some(mut case), true) = (rest(case), case.counts == certificate.counts) {
                     let energy = |i| certificate.numbers[certificate.resource(i)];
-                    case.numbers[0] = (case.numbers[0] - gone.clone().map(energy).sum::<i64>()).max(0);
+                    case.numbers[0] =
+                        (case.numbers[0] - gone.clone().map(energy).sum::<i64>()).max(0);
                     out.push(with(trial, [Some(case), rest(certificate)]));
                 }
             }

@@ -48,7 +48,9 @@ impl Subject {
             Some(2) => Err(String::from_utf8_lossy(&output.stderr).into_owned()),
             // It was stopped: by the clock, or by a fault that it could not catch. Halves tell where.
             _ => match records.split_at(records.len() / 2) {
-                ([], [(place, _)]) => Ok(vec![(*place, format!("the host ended with {}", output.status))]),
+                ([], [(place, _)]) => {
+                    Ok(vec![(*place, format!("the host ended with {}", output.status))])
+                }
                 (some, others) => {
                     let mut found = self.calls_differ(some)?;
                     if found.is_empty() {
