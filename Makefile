@@ -1,4 +1,16 @@
-.PHONY: help test check lib shared install demo soak fmt survey bench N ?= 1000000 PREFIX /usr/local DESTDIR INSTALL # The static library is what rt proves and compiles; the one made from it has nothing more. static_library = target/staticlib/libnostwier.a shared_library target/lib/libnostwier.so.1 headers include/nostwier.h include/nostwier_refusals.h version $(shell sed -n 's/^.define NOSTWIER_VERSION "\(.*\)"$$/\1/p' include/nostwier.h) fuzz SECONDS 60
+.PHONY: help test check lib shared install demo soak fuzz bench fmt survey
+
+N ?= 1000000
+SECONDS ?= 60
+PREFIX ?= /usr/local
+DESTDIR ?=
+INSTALL ?= install
+
+# The static library is what rt proves and compiles; the shared one is made from it and has nothing more.
+static_library = target/staticlib/libnostwier.a
+shared_library = target/lib/libnostwier.so.1
+headers = include/nostwier.h include/nostwier_refusals.h
+version = $(shell sed -n 's/^.define NOSTWIER_VERSION "\(.*\)"$$/\1/p' include/nostwier.h)
 
 help:
 	@echo 'make demo    prove and build the program, run it on the shipped example and explain what it prints'
