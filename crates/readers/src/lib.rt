@@ -1,0 +1,120 @@
+// The one reader that records are read out of a case through: the lent bytes of the case, with its three counts.
+// Each function over it takes it apart and calls the function of `records` that does the work; beside each stands one on plain
+// parameters, which makes the reader and calls it. Each asks that the bytes it reads are there (`records`, specs/Places.antt).
+ghost use mathlib.Core.Path.{_≡_};
+ghost use Rattle.market.specs.CaseFile.{resourceAt, resourcePlace, caseOf};
+ghost use Rattle.market.specs.Records.{kw, recordOf, zoneRequirementsOf};
+ghost use Rattle.records.specs.Places.{ZoneIn, ResourceIn, FlowgateIn, FactorIn};
+ghost use Rattle.readers.specs.Reader.{readerOf};
+use market::Kw;
+use market::Resource;
+use market::ZoneRequirements;
+
+pub struct CaseReader<'a> {
+    pub bytes: &'a [u8],
+    pub resources: usize,
+    pub zones: usize,
+    pub flowgates: usize,
+}
+
+pub fn new<'a>(bytes: &'a [u8], resources: usize, zones: usize, flowgates: usize) -> CaseReader<'a>
+    ensures { λ r. ⌜ r ≡ readerOf (bytes .entry) resources zones flowgates ⌝ }
+{
+    CaseReader {
+        bytes,
+        resources,
+        zones,
+        flowgates,
+    }
+}
+
+// ---- zones, counted from 0
+
+pub fn zone_of<'a>(r: CaseReader<'a>, z: usize) -> ZoneRequirements
+    requires { ⌜ ZoneIn (now (r .bytes)) z ⌝ }
+    ensures { λ q. ⌜ q ≡ zoneRequirementsOf (caseOf (now (r .entry .bytes))) z ⌝ }
+{
+    records::zone_at(r.bytes, z)
+}
+
+pub fn zone_at(
+    b: &[u8],
+    resources: usize,
+    zones: usize,
+    flowgates: usize,
+    z: usize,
+) -> ZoneRequirements
+    requires { ⌜ ZoneIn (now b) z ⌝ }
+    ensures { λ r. ⌜ r ≡ zoneRequirementsOf (caseOf (now (b .entry))) z ⌝ }
+{
+    zone_of(new(b, resources, zones, flowgates), z)
+}
+
+// ---- resources, counted from 0
+
+pub fn resource_of<'a>(r: CaseReader<'a>, i: usize) -> Resource
+    requires { ⌜ ResourceIn (now (r .bytes)) (r .zones) i ⌝ }
+    ensures { λ q. ⌜ q ≡ recordOf (resourceAt (now (r .entry .bytes)) (resourcePlace (r .entry .zones) i)) ⌝ }
+{
+    records::resource_at(r.bytes, r.zones, i)
+}
+
+pub fn resource_at(b: &[u8], resources: usize, zones: usize, flowgates: usize, i: usize) -> Resource
+    requires { ⌜ ResourceIn (now b) zones i ⌝ }
+    ensures { λ r. ⌜ r ≡ recordOf (resourceAt (now (b .entry)) (resourcePlace zones i)) ⌝ }
+{
+    resource_of(new(b, resources, zones, flowgates), i)
+}
+
+// The zone of resource i alone, counted from 1.
+pub fn home_of<'a>(r: CaseReader<'a>, i: usize) -> u8
+    requires { ⌜ ResourceIn (now (r .bytes)) (r .zones) i ⌝ }
+    ensures { λ v. ⌜ v ≡ resourceAt (now (r .entry .bytes)) (resourcePlace (r .entry .zones) i) .zone ⌝ }
+{
+    records::resource_zone(r.bytes, r.zones, i)
+}
+
+pub fn resource_zone(b: &[u8], resources: usize, zones: usize, flowgates: usize, i: usize) -> u8
+    requires { ⌜ ResourceIn (now b) zones i ⌝ }
+    ensures { λ v. ⌜ v ≡ resourceAt (now (b .entry)) (resourcePlace zones i) .zone ⌝ }
+{
+    home_of(new(b, resources, zones, flowgates), i)
+}
+
+// ---- flowgates, counted from 0
+
+pub fn flowgate_limit_of<'a>(r: CaseReader<'a>, f: usize) -> Kw
+    requires { ⌜ FlowgateIn (now (r .bytes)) (r .resources) (r .zones) f ⌝ }
+    ensures { λ q. ⌜ q ≡ kw (caseOf (now (r .entry .bytes)) .flowgateLimit f) ⌝ }
+{
+    records::flowgate_limit_at(r.bytes, r.resources, r.zones, f)
+}
+
+pub fn flowgate_limit_at(b: &[u8], resources: usize, zones: usize, flowgates: usize, f: usize) -> Kw
+    requires { ⌜ FlowgateIn (now b) resources zones f ⌝ }
+    ensures { λ r. ⌜ r ≡ kw (caseOf (now (b .entry)) .flowgateLimit f) ⌝ }
+{
+    flowgate_limit_of(new(b, resources, zones, flowgates), f)
+}
+
+// In thousandths.
+pub fn shift_factor_of<'a>(r: CaseReader<'a>, f: usize, i: usize) -> i64
+    requires { ⌜ FactorIn (now (r .bytes)) (r .resources) (r .zones) f i ⌝ }
+    ensures { λ n. ⌜ n ≡ caseOf (now (r .entry .bytes)) .shiftFactor f i ⌝ }
+{
+    records::shift_factor_at(r.bytes, r.resources, r.zones, f, i)
+}
+
+pub fn shift_factor_at(
+    b: &[u8],
+    resources: usize,
+    zones: usize,
+    flowgates: usize,
+    f: usize,
+    i: usize,
+) -> i64
+    requires { ⌜ FactorIn (now b) resources zones f i ⌝ }
+    ensures { λ r. ⌜ r ≡ caseOf (now (b .entry)) .shiftFactor f i ⌝ }
+{
+    shift_factor_of(new(b, resources, zones, flowgates), f, i)
+}
