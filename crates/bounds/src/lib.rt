@@ -87,7 +87,7 @@ fn zone_terms(b: &[u8], q: &[u8], r: usize, z: usize, f: usize, zone: usize) -> 
     ensures { λ g. ⌜ Figure g (zoneTerms (now (b .entry)) (now (q .entry)) zone) mostZoneTerms ⌝ }
 {
     let prices = entries::zone_prices_at(q, r, z, f, zone);
-    let needed = records::zone_at(b, zone);
+    let needed = readers::zone_at(b, r, z, f, zone);
     zone_value(prices, needed)
 }
 
@@ -114,7 +114,7 @@ fn flowgate_term(b: &[u8], q: &[u8], r: usize, z: usize, f: usize, flowgate: usi
 {
     let price = entries::flowgate_price_at(q, r, z, f, flowgate);
     let against = units::factored(price, -1000);
-    let limit = records::flowgate_limit_at(b, r, z, flowgate);
+    let limit = readers::flowgate_limit_at(b, r, z, f, flowgate);
     worth(against, limit)
 }
 
@@ -155,7 +155,7 @@ fn limit_terms(b: &[u8], q: &[u8], r: usize, z: usize, f: usize, i: usize) -> Gr
     ensures { λ g. ⌜ Figure g (limitTerms (now (b .entry)) (now (q .entry)) i) mostLimitTerms ⌝ }
 {
     let prices = entries::limit_prices_at(q, r, z, f, i);
-    let resource = records::resource_at(b, z, i);
+    let resource = readers::resource_at(b, r, z, f, i);
     let held = limits::limits_of(resource);
     limit_value(prices, held)
 }
@@ -270,7 +270,7 @@ fn least_terms(b: &[u8], q: &[u8], r: usize, z: usize, f: usize, i: usize) -> Gr
     ensures { λ g. ⌜ Figure g (leastTerms (now (b .entry)) (now (q .entry)) i) mostLeastTerms ⌝ }
 {
     let prices = nets::nets_at(b, q, r, z, f, i);
-    let resource = records::resource_at(b, z, i);
+    let resource = readers::resource_at(b, r, z, f, i);
     let on = limits::on_line(resource);
     let uppers = reserve_bounds(b, resource);
     let steps = steps_least(prices, on, resource.steps);

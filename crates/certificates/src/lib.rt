@@ -133,7 +133,7 @@ fn first_provided_above(b: &[u8], q: &[u8], r: usize, z: usize, f: usize) -> u32
     let mut place: u32 = 5;
     let mut i: usize = 0;
     while i < r {
-        let most = service_bounds(records::resource_at(b, z, i), terms);
+        let most = service_bounds(readers::resource_at(b, r, z, f, i), terms);
         let given = entries::amounts_at(q, r, z, f, i);
         let found = provided_above(given, most, place);
         if found > 0 {

@@ -102,7 +102,7 @@ fn write_resource(b: &[u8], q: &[u8], r: usize, z: usize, f: usize, i: usize, ou
     ensures { λ _. ⌜ now (out .exit) ≡ resourceCharges (now (b .entry)) (now (q .entry)) i ++ drop 14 (now (out .entry)) ⌝ }
 {
     let prices = nets::nets_at(b, q, r, z, f, i);
-    let resource = records::resource_at(b, z, i);
+    let resource = readers::resource_at(b, r, z, f, i);
     let amounts = entries::amounts_at(q, r, z, f, i);
     let on = limits::on_line(resource);
     let uppers = bounds::reserve_bounds(b, resource);

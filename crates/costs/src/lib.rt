@@ -134,7 +134,7 @@ fn resource_worth(b: &[u8], q: &[u8], r: usize, z: usize, f: usize, i: usize) ->
     requires { ⌜ Standing (now b) (now q) r z f × (i < r) ⌝ }
     ensures { λ v. ⌜ v ≡ thousands (resourceWorth (caseOf (now (b .entry))) (certificateOf (now (q .entry)) .amount) i) ⌝ }
 {
-    let resource = records::resource_at(b, z, i);
+    let resource = readers::resource_at(b, r, z, f, i);
     let amounts = entries::amounts_at(q, r, z, f, i);
     let energy = energy_worth(resource.steps, amounts.energy);
     let reserves = reserves_worth(resource.offers, amounts);

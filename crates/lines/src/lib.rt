@@ -104,7 +104,7 @@ fn resource_line(
     requires { ⌜ PricesStand (now b) (now q) r z f × ((i < r) × (mostResourceLine ≤ length (now out))) ⌝ }
     ensures { λ n. ⌜ Wrote (resourceLine (caseOf (now (b .entry))) (certificateOf (now (q .entry))) i) (now (out .entry)) (now (out .exit)) n ⌝ }
 {
-    let record = records::resource_at(b, z, i);
+    let record = readers::resource_at(b, r, z, f, i);
     let on = limits::on_line(record);
     let a = entries::amounts_at(q, r, z, f, i);
     let price = prices::lmp(b, q, r, z, f, i);

@@ -145,7 +145,7 @@ pub fn nets_at(b: &[u8], q: &[u8], r: usize, z: usize, f: usize, i: usize) -> Ne
     requires { ⌜ PricesStand (now b) (now q) r z f × (i < r) ⌝ }
     ensures { λ n. ⌜ n ≡ netsOf (caseOf (now (b .entry))) (certificateOf (now (q .entry)) .price) i ⌝ }
 {
-    let resource = records::resource_at(b, z, i);
+    let resource = readers::resource_at(b, r, z, f, i);
     let state = resource.state;
     let zone = state.zone as usize - 1;
     let spins = spinning(resource);

@@ -22,7 +22,7 @@ fn congestion(b: &[u8], q: &[u8], r: usize, z: usize, f: usize, i: usize) -> Mil
     let mut g: usize = 0;
     while g < f {
         let p = entries::flowgate_price_at(q, r, z, f, g);
-        let x = records::shift_factor_at(b, r, z, g, i);
+        let x = readers::shift_factor_at(b, r, z, f, g, i);
         let t = units::factored(p, x);
         sum = units::price_sum(sum, t);
         g += 1;

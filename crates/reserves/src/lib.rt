@@ -52,7 +52,7 @@ pub fn reserve_given(b: &[u8], q: &[u8], r: usize, z: usize, f: usize, i: usize)
     requires { ⌜ Standing (now b) (now q) r z f × (i < r) ⌝ }
     ensures { λ v. ⌜ v ≡ curveAmountsOf (λ k. reserveOf (caseOf (now (b .entry))) (certificateOf (now (q .entry)) .amount) k i) ⌝ }
 {
-    let resource = records::resource_at(b, z, i);
+    let resource = readers::resource_at(b, r, z, f, i);
     let a = entries::amounts_at(q, r, z, f, i);
     let spin = spinning(resource, a.contingency);
     given(a, spin)
@@ -82,7 +82,7 @@ fn given_in_zone(
     requires { ⌜ Standing (now b) (now q) r z f × ((zone < z) × (i < r)) ⌝ }
     ensures { λ v. ⌜ v ≡ curveAmountsOf (λ k. reserveInZone (caseOf (now (b .entry))) (certificateOf (now (q .entry)) .amount) zone k i) ⌝ }
 {
-    let home = records::resource_zone(b, z, i) as usize;
+    let home = readers::resource_zone(b, r, z, f, i) as usize;
     if home != zone + 1 {
         return nothing();
     }

@@ -93,7 +93,7 @@ fn write_zone(b: &[u8], q: &[u8], r: usize, z: usize, f: usize, zone: usize, out
 {
     let prices = entries::zone_prices_at(q, r, z, f, zone);
     let have = reserves::zone_reserves(b, q, r, z, f, zone);
-    let need = rows::required(b, zone);
+    let need = rows::required(b, r, z, f, zone);
     write_four(prices, have, need, out);
 }
 
@@ -121,7 +121,7 @@ fn flowgate_charge(b: &[u8], q: &[u8], r: usize, z: usize, f: usize, g: usize) -
     let cents = entries::flowgate_price_at(q, r, z, f, g);
     let price = units::factored(cents, 1);
     let flows = rows::flow(b, q, r, z, f, g);
-    let limit = records::flowgate_limit_at(b, r, z, g);
+    let limit = readers::flowgate_limit_at(b, r, z, f, g);
     let most = units::flow(1000, limit);
     charge(price, most, flows)
 }
@@ -166,7 +166,7 @@ fn write_resource(b: &[u8], q: &[u8], r: usize, z: usize, f: usize, i: usize, ou
     ensures { λ _. ⌜ now (out .exit) ≡ map (chargeOf (now (b .entry)) (now (q .entry))) (map (Limited i) limits) ++ drop 5 (now (out .entry)) ⌝ }
 {
     let prices = entries::limit_prices_at(q, r, z, f, i);
-    let resource = records::resource_at(b, z, i);
+    let resource = readers::resource_at(b, r, z, f, i);
     let own = limits::limits_of(resource);
     let a = entries::amounts_at(q, r, z, f, i);
     write_five(prices, a, own, out);

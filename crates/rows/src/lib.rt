@@ -88,11 +88,11 @@ fn market_short(b: &[u8], q: &[u8], r: usize, z: usize, f: usize) -> u32
 }
 
 // What a zone needs.
-pub fn required(b: &[u8], zone: usize) -> CurveAmounts
+pub fn required(b: &[u8], r: usize, z: usize, f: usize, zone: usize) -> CurveAmounts
     requires { ⌜ ZoneIn (now b) zone ⌝ }
     ensures { λ v. ⌜ v ≡ curveAmountsOf (λ k. pos (caseOf (now (b .entry)) .zoneRequirement zone k)) ⌝ }
 {
-    let all = records::zone_at(b, zone);
+    let all = readers::zone_at(b, r, z, f, zone);
     CurveAmounts {
         operating: all.of[0],
         regulating_plus_spinning: all.of[1],
@@ -107,7 +107,7 @@ fn zone_short(b: &[u8], q: &[u8], r: usize, z: usize, f: usize, zone: usize, fir
     ensures { λ n. ⌜ foundAt RowBroken n ≡ brokenFrom (now (b .entry)) (now (q .entry)) first (map (Zone zone) curves) ⌝ }
 {
     let have = reserves::zone_reserves(b, q, r, z, f, zone);
-    let need = required(b, zone);
+    let need = required(b, r, z, f, zone);
     first_short(have, need, first)
 }
 
@@ -138,7 +138,7 @@ pub fn flow(b: &[u8], q: &[u8], r: usize, z: usize, f: usize, g: usize) -> Kw
     let mut sum = Kw(0);
     let mut i: usize = 0;
     while i < r {
-        let factor = records::shift_factor_at(b, r, z, g, i);
+        let factor = readers::shift_factor_at(b, r, z, f, g, i);
         let a = entries::amounts_at(q, r, z, f, i);
         let part = units::flow(factor, a.energy);
         sum = units::kw_sum(sum, part);
@@ -153,7 +153,7 @@ fn flowgate_over(b: &[u8], q: &[u8], r: usize, z: usize, f: usize, g: usize, row
     ensures { λ n. ⌜ foundAt RowBroken n ≡ brokenFrom (now (b .entry)) (now (q .entry)) row (Flowgate g ∷ []) ⌝ }
 {
     let flows = flow(b, q, r, z, f, g);
-    let limit = records::flowgate_limit_at(b, r, z, g);
+    let limit = readers::flowgate_limit_at(b, r, z, f, g);
     let most = units::flow(1000, limit);
     if units::at_least(most, flows) {
         return 0;
@@ -212,7 +212,7 @@ fn resource_outside(b: &[u8], q: &[u8], r: usize, z: usize, f: usize, i: usize, 
     requires { ⌜ Standing (now b) (now q) r z f × ((i < r) × Numbered 374 first) ⌝ }
     ensures { λ n. ⌜ foundAt RowBroken n ≡ brokenFrom (now (b .entry)) (now (q .entry)) first (map (Limited i) limits) ⌝ }
 {
-    let resource = records::resource_at(b, z, i);
+    let resource = readers::resource_at(b, r, z, f, i);
     let own = limits::limits_of(resource);
     let a = entries::amounts_at(q, r, z, f, i);
     first_outside(a, own, first)
