@@ -7,7 +7,7 @@ ghost use Rattle.market.specs.Rows.{Balance, Market, Zone, Flowgate};
 ghost use Rattle.market.specs.Certificate.{certificateOf, amountsPlace};
 ghost use Rattle.market.specs.Records.{power, price, cents, millicents, amountsOf, limitPricesOf, clearedOf, reservePricesOf};
 ghost use Rattle.wire.specs.Within.{Within};
-ghost use Rattle.entries.specs.CertificateBytes.{CertificateBytes, reservePricesAt};
+ghost use Rattle.entries.specs.CertificateBytes.{CertificateBytes, BalanceNear, reservePricesAt};
 use market::Amounts;
 use market::Cents;
 use market::CurveAmounts;
@@ -101,12 +101,12 @@ pub fn zone_prices_at(q: &[u8], r: usize, z: usize, f: usize, zone: usize) -> Re
     reserve_prices_at(q, 44 + zone * 16)
 }
 
-// The price of row 1.
+// The price of row 1, past refusal 12.
 pub fn balance_price(q: &[u8], r: usize, z: usize, f: usize) -> Millicents
-    requires { ⌜ CertificateBytes (now q) r z f ⌝ }
+    requires { ⌜ CertificateBytes (now q) r z f × BalanceNear (now q) ⌝ }
     ensures { λ p. ⌜ p ≡ millicents (certificateOf (now (q .entry)) .price Balance) ⌝ }
 {
-    Millicents(wire::i32_at(q, 24))
+    Millicents(wire::i32_small_at(q, 24))
 }
 
 // The price of a flowgate's row, in cents, flowgates counted from 0.

@@ -1,2 +1,3 @@
+pub mod Quarter
 pub mod SignedBits
 pub mod Stores

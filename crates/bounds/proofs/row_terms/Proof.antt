@@ -3,6 +3,7 @@ use Prim.Native.Nat.{_≤_}
 use native.Mathlib.Omega.{arith}
 use lib.IntN.{natAbs}
 use Rattle.market.specs.Rows.{Balance, rightSide}
+use Rattle.prices.proofs.Known.{balance-read}
 use Rattle.bounds.specs.Terms.{rowTerm}
 use Rattle.bounds.proofs.RowTerms.{balance-room, rows-are}
 use borrow.Author.Needs.{needs}
@@ -27,4 +28,4 @@ returns : tie.Need-returns
 returns c = record { is = cc (balance (c .before .before .before .before .before .before), rows-are (c .before .before .before .before .before .before .before .before .before .before .before .pre)); size = omega (arith, demand-most (c .before .before .before .before .before .before .before)) }
 
 pub row-terms-spec : {M : Type 1} → statement M
-row-terms-spec = tie.close (tie.spec (λ c κs. search needs) (λ c κs. search needs) worth-requires (λ c κs. search needs) (λ c κs. search needs) (λ c κs. search needs) (λ c κs. search needs) (λ c κs. search needs) plus-requires-3 returns)
+row-terms-spec = tie.close (tie.spec (λ c κs. balance-read (c .before .before .pre)) (λ c κs. search needs) worth-requires (λ c κs. search needs) (λ c κs. search needs) (λ c κs. search needs) (λ c κs. search needs) (λ c κs. search needs) plus-requires-3 returns)

@@ -1,9 +1,13 @@
 -- `records::offer_step_at` meets its contract: the record field by field, each from what its reader ensures. Assumes nothing.
+use native.Mathlib.Omega.{arith}
 use borrow.Author.Needs.{needs}
 use Rattle.market.specs.CaseFile.{resourceAt}
 use Rattle.market.specs.Records.{offerStepOf}
 use Rattle.records.proofs.offer_step_at.Statement.{statement}
 use Rattle.records.proofs.offer_step_at.Tie as tie
+
+signed-cents-at-requires : tie.Need-signed-cents-at-requires
+signed-cents-at-requires c κs = let s = c .before .before in (omega (arith, s .pre .0 .within, s .pre .1), s .pre .0 .step-price (s .args .j) (s .pre .1))
 
 returns : tie.Need-returns
 unfolding offerStepOf resourceAt
@@ -20,5 +24,5 @@ offer-step-at-spec =
     (λ c. search needs)
     (λ c. search needs)
     (λ c. search needs)
-    (λ c κs. search needs)
+    signed-cents-at-requires
     returns)
