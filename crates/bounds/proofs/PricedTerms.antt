@@ -1,4 +1,5 @@
--- The priced quantities' part of the bound: what the records of a case and net prices make of it, and that they are small enough.
+-- The priced quantities' part of the bound: what the records of a case and net prices make of it, and that they are small enough;
+-- then the whole bound.
 use mathlib.Core.Path.{_≡_, refl, sym, _∙_}
 use mathlib.Core.Bool.{Bool, true, false, cond}
 use mathlib.Core.List.{List, map}
@@ -9,7 +10,8 @@ use native.Mathlib.Omega.{arith}
 use lib.IntN.{ℤ, pos, natAbs, _+ℤ_, +ℤ-idr}
 use Rattle.arith.specs.Sums.{sumOf, upto, across}
 use Rattle.arith.proofs.Lists.{each-upto}
-use Rattle.arith.proofs.Sums.{sum-each-ext, append-sums, sum-map, sum-across, total-mono, total-suc, total-longer}
+use Rattle.arith.proofs.Linear.{sorted, count}
+use Rattle.arith.proofs.Sums.{sum-each-ext, append-sums, sum-add, sum-map, sum-across, total-mono, total-suc, total-longer}
 use Rattle.market.specs.Case.{Case, Curve, curves, operating, regulatingPlusSpinning, regulating, shortTerm, energySteps, curveSteps}
 use Rattle.market.specs.CaseFile.{caseOf}
 use Rattle.market.specs.declared.CurveSteps.{CurveSteps}
@@ -18,7 +20,7 @@ use Rattle.market.specs.declared.Grains.{Grains}
 use Rattle.market.specs.declared.Millicents.{Millicents}
 use Rattle.market.specs.Availability.{onLine}
 use Rattle.market.specs.UpperBounds.{Service, regulation, contingency, onLineShortTerm, offLineShortTerm, reserveServices}
-use Rattle.market.specs.Rows.{Market}
+use Rattle.market.specs.Rows.{Balance, Market, rows}
 use Rattle.market.specs.Certificate.{Prices, certificateOf}
 use Rattle.market.specs.Cost.{EnergyStep, Whole, CurveStep, pricedOf, curvePriced, priced, width}
 use Rattle.market.specs.Bound.{lowest}
@@ -29,12 +31,13 @@ use Rattle.market.proofs.Sizes.{widths-total, service-most}
 use Rattle.records.specs.Ranged.{offerStep, curveStep, RangedCurve}
 use Rattle.records.proofs.Places.{resources-is}
 use Rattle.records.proofs.Ranged.{offer-step-is, curve-step-is}
+use Rattle.limits.specs.Together.{reserveBoundsOf}
 use Rattle.prices.specs.Standing.{PricesStand}
 use Rattle.nets.specs.NetPrices.{netsOf}
 use Rattle.nets.proofs.Known.{step-is}
 use Rattle.bounds.specs.Sizes.{SmallBounds, SmallStep, SmallSteps, stepsWidth, Figure}
-use Rattle.bounds.specs.Terms.{pricedTerm, leastTerms, reserveBoundsOf, stepLeast, reservesLeast, curveStepLeast}
-use Rattle.bounds.proofs.RowTerms.{over-curves}
+use Rattle.bounds.specs.Terms.{rowTerm, pricedTerm, zoneTerms, flowgateTerm, limitTerms, leastTerms, resourceTerms, stepLeast, reservesLeast, curveStepLeast}
+use Rattle.bounds.proofs.RowTerms.{over-curves, rows-are}
 
 chosen : (t : Bool) (w : ℕ) → cond t (power w) (power 0) .0 ≡ pos (cond t w 0)
 chosen true w = refl
@@ -139,6 +142,17 @@ module _ (c : Case) (y : Prices) where
   all-priced = sym (append-sums (lowest c y) (across pricedOf (upto (c .resources))) (across curvePriced curves) (sum-across (lowest c y) pricedOf (upto (c .resources))) refl)
 
 -- by the code's count
-pub priced-are : {b q : List ℕ} {r z f : ℕ} → PricesStand b q r z f →
+priced-are : {b q : List ℕ} {r z f : ℕ} → PricesStand b q r z f →
     sumOf (leastTerms b q) (upto r) +ℤ sumOf (pricedTerm b q) (across curvePriced curves) ≡ sumOf (pricedTerm b q) (priced (caseOf b))
 priced-are {b} {q} s = rw (resources-is (s .case-bytes)) (all-priced (caseOf b) (certificateOf q .price))
+
+-- ---- the bound: what no resource has, then resource by resource, then the curves
+pub bound-is : {b q : List ℕ} {r z f : ℕ} → PricesStand b q r z f →
+    rowTerm b q Balance +ℤ (sumOf (zoneTerms b q) (upto z) +ℤ sumOf (flowgateTerm b q) (upto f)) +ℤ (sumOf (resourceTerms b q) (upto r) +ℤ sumOf (pricedTerm b q) (across curvePriced curves))
+    ≡ sumOf (rowTerm b q) (rows (caseOf b)) +ℤ sumOf (pricedTerm b q) (priced (caseOf b))
+bound-is {b} {q} {r} {z} {f} s =
+    rw (sum-add (limitTerms b q) (leastTerms b q) (upto r), ← rows-are s, ← priced-are s)
+    (ring (rowTerm b q Balance) (sumOf (zoneTerms b q) (upto z)) (sumOf (flowgateTerm b q) (upto f)) (sumOf (limitTerms b q) (upto r)) (sumOf (leastTerms b q) (upto r)) (sumOf (pricedTerm b q) (across curvePriced curves)))
+  where
+    ring : (a z f l p c : ℤ) → a +ℤ (z +ℤ f) +ℤ (l +ℤ p +ℤ c) ≡ a +ℤ (z +ℤ (f +ℤ l)) +ℤ (p +ℤ c)
+    ring a z f l p c = simp sorted (simp count (omega arith))

@@ -10,10 +10,10 @@ use Rattle.market.specs.declared.Step.{Step}
 use Rattle.market.specs.declared.OfferSteps.{OfferSteps}
 use Rattle.market.specs.declared.ZoneRequirements.{ZoneRequirements}
 use Rattle.records.specs.Ranged.{offerStep}
+use Rattle.limits.specs.declared.ReserveBounds.{ReserveBounds}
 use Rattle.limits.specs.declared.ResourceLimits.{ResourceLimits}
 use Rattle.nets.specs.Sizes.{mostPrice, SmallOffer}
 use Rattle.bounds.specs.Terms.{required}
-use Rattle.bounds.specs.declared.ReserveBounds.{ReserveBounds}
 
 -- ---- how large they can be, in grains; widths and limits in kW
 -- a net price, in thousandths of a cent
@@ -30,8 +30,8 @@ mostFlowgateTerm = mostPrice * 20000000
 abbrev pub mostLimitTerms : ℕ
 mostLimitTerms = mostPrice * (4 * 2000000 + 4000000)
 
-abbrev pub mostRowTerms : ℕ
-mostRowTerms = mostPrice * 128000000 + 8 * mostZoneTerms + 16 * mostFlowgateTerm + 64 * mostLimitTerms
+abbrev pub mostCommonTerms : ℕ
+mostCommonTerms = mostPrice * 128000000 + 8 * mostZoneTerms + 16 * mostFlowgateTerm
 
 -- the steps of a resource have no more than 2,000,000 kW together, each reserve too
 abbrev pub mostService : ℕ
@@ -40,11 +40,11 @@ mostService = mostNet * 2000000
 abbrev pub mostLeastTerms : ℕ
 mostLeastTerms = 5 * mostService
 
+abbrev pub mostResourceTerms : ℕ
+mostResourceTerms = mostLimitTerms + mostLeastTerms
+
 abbrev pub mostCurveStep : ℕ
 mostCurveStep = mostNet * 8000000
-
-abbrev pub mostPricedTerms : ℕ
-mostPricedTerms = 64 * mostLeastTerms + 16 * mostCurveStep
 
 -- ---- figures
 -- g is v grains, and no more than `most`

@@ -11,17 +11,16 @@ use Rattle.market.specs.declared.Step.{Step}
 use Rattle.market.specs.declared.LimitPrices.{LimitPrices}
 use Rattle.market.specs.declared.ReservePrices.{ReservePrices}
 use Rattle.market.specs.declared.ZoneRequirements.{ZoneRequirements}
-use Rattle.market.specs.Case.{Case, Resource, curves}
+use Rattle.market.specs.Case.{curves}
 use Rattle.market.specs.CaseFile.{caseOf}
-use Rattle.market.specs.UpperBounds.{serviceBound, regulation, contingency, onLineShortTerm, offLineShortTerm}
 use Rattle.market.specs.Rows.{Row, Zone, Flowgate, Limited, limits, rightSide}
 use Rattle.market.specs.Certificate.{certificateOf}
 use Rattle.market.specs.Cost.{Priced, pricedOf}
 use Rattle.market.specs.Bound.{lowest}
 use Rattle.market.specs.Records.{power}
+use Rattle.limits.specs.declared.ReserveBounds.{ReserveBounds}
 use Rattle.limits.specs.declared.ResourceLimits.{ResourceLimits}
 use Rattle.nets.specs.declared.Nets.{Nets}
-use Rattle.bounds.specs.declared.ReserveBounds.{ReserveBounds}
 
 -- ---- of the bytes
 -- row price × right side
@@ -45,15 +44,9 @@ limitTerms b q i = sumOf (λ l. rowTerm b q (Limited i l)) limits
 abbrev pub leastTerms : List ℕ → List ℕ → ℕ → ℤ
 leastTerms b q i = sumOf (pricedTerm b q) (pricedOf i)
 
--- ---- records
-unfoldable pub reserveBoundsOf : Case → Resource → ReserveBounds
-reserveBoundsOf c r =
-    record {
-      regulation = power (serviceBound c r regulation);
-      contingency = power (serviceBound c r contingency);
-      «on_line_short_term» = power (serviceBound c r onLineShortTerm);
-      «off_line_short_term» = power (serviceBound c r offLineShortTerm);
-    }
+-- of a resource: of its rows, and of what is priced of it
+abbrev pub resourceTerms : List ℕ → List ℕ → ℕ → ℤ
+resourceTerms b q i = limitTerms b q i +ℤ leastTerms b q i
 
 -- ---- of records
 -- the rows of a zone: prices × requirements

@@ -7,20 +7,23 @@ ghost use lib.IntN.{natAbs, _+ℤ_, _-ℤ_, _*ℤ_};
 ghost use Rattle.arith.specs.Sums.{sumOf, upto, across};
 ghost use Rattle.market.specs.Case.{Resource as Figures, curves};
 ghost use Rattle.market.specs.CaseFile.{caseOf};
-ghost use Rattle.market.specs.Rows.{rows};
+ghost use Rattle.market.specs.Availability.{onLine};
+ghost use Rattle.market.specs.Rows.{Balance};
 ghost use Rattle.market.specs.Certificate.{certificateOf};
-ghost use Rattle.market.specs.Cost.{curvePriced, priced};
+ghost use Rattle.market.specs.Cost.{curvePriced};
 ghost use Rattle.market.specs.Bound.{bound};
 ghost use Rattle.market.specs.Outcome.{Valid};
 ghost use Rattle.market.specs.Records.{grains, recordOf};
 ghost use Rattle.records.specs.Places.{HeadIn};
 ghost use Rattle.records.specs.Ranged.{Ranged, RangedCurve, offerStep, curveStep};
+ghost use Rattle.limits.specs.Together.{reserveBoundsOf};
 ghost use Rattle.units.specs.Room.{SumRoom};
 ghost use Rattle.prices.specs.Standing.{PricesStand, Standing};
 ghost use Rattle.prices.specs.ZonePrices.{SmallPrices};
 ghost use Rattle.nets.specs.Sizes.{mostPrice, SmallNets, SmallLimitPrices};
-ghost use Rattle.bounds.specs.Sizes.{mostNet, mostZoneTerms, mostFlowgateTerm, mostLimitTerms, mostRowTerms, mostService, mostLeastTerms, mostCurveStep, mostPricedTerms, Figure, RowRoom, LeastRoom, SmallRequirements, SmallLimits, SmallBounds, SmallStep, SmallSteps};
-ghost use Rattle.bounds.specs.Terms.{rowTerm, pricedTerm, zoneTerms, flowgateTerm, limitTerms, leastTerms, reserveBoundsOf, zoneValue, limitValue, leastOf, stepBound, stepLeast, reservesLeast, curveStepLeast};
+ghost use Rattle.bounds.specs.Sizes.{mostNet, mostZoneTerms, mostFlowgateTerm, mostCommonTerms, mostLimitTerms, mostService, mostLeastTerms, mostResourceTerms, mostCurveStep, Figure, RowRoom, LeastRoom, SmallRequirements, SmallLimits, SmallBounds, SmallStep, SmallSteps};
+ghost use Rattle.bounds.specs.Terms.{rowTerm, pricedTerm, zoneTerms, flowgateTerm, leastTerms, resourceTerms, zoneValue, limitValue, leastOf, stepBound, stepLeast, reservesLeast, curveStepLeast};
+use limits::ReserveBounds;
 use limits::ResourceLimits;
 use market::CurveSteps;
 use market::Grains;
@@ -150,43 +153,19 @@ fn limit_value(prices: LimitPrices, held: ResourceLimits) -> Grains
     minus(below, above)
 }
 
-fn limit_terms(b: &[u8], q: &[u8], r: usize, z: usize, f: usize, i: usize) -> Grains
-    requires { ⌜ PricesStand (now b) (now q) r z f × (i < r) ⌝ }
-    ensures { λ g. ⌜ Figure g (limitTerms (now (b .entry)) (now (q .entry)) i) mostLimitTerms ⌝ }
-{
-    let prices = entries::limit_prices_at(q, r, z, f, i);
-    let resource = readers::resource_at(b, r, z, f, i);
-    let held = limits::limits_of(resource);
-    limit_value(prices, held)
-}
+// ---- of no resource
 
-fn limits_sum(b: &[u8], q: &[u8], r: usize, z: usize, f: usize) -> Grains
+// A market row's right side is 0.
+fn common_terms(b: &[u8], q: &[u8], r: usize, z: usize, f: usize) -> Grains
     requires { ⌜ PricesStand (now b) (now q) r z f ⌝ }
-    ensures { λ g. ⌜ Figure g (sumOf (limitTerms (now (b .entry)) (now (q .entry))) (upto r)) (64 * mostLimitTerms) ⌝ }
-{
-    let mut sum = Grains(0);
-    let mut i: usize = 0;
-    while i < r {
-        let terms = limit_terms(b, q, r, z, f, i);
-        sum = plus(sum, terms);
-        i += 1;
-    }
-    sum
-}
-
-// Over all rows; a market row's right side is 0.
-fn row_terms(b: &[u8], q: &[u8], r: usize, z: usize, f: usize) -> Grains
-    requires { ⌜ PricesStand (now b) (now q) r z f ⌝ }
-    ensures { λ g. ⌜ Figure g (sumOf (rowTerm (now (b .entry)) (now (q .entry))) (rows (caseOf (now (b .entry))))) mostRowTerms ⌝ }
+    ensures { λ g. ⌜ Figure g (rowTerm (now (b .entry)) (now (q .entry)) Balance +ℤ (sumOf (zoneTerms (now (b .entry)) (now (q .entry))) (upto z) +ℤ sumOf (flowgateTerm (now (b .entry)) (now (q .entry))) (upto f))) mostCommonTerms ⌝ }
 {
     let price = entries::balance_price(q, r, z, f);
     let demand = records::demand(b);
     let balance = worth(price, demand);
     let zones = zones_sum(b, q, r, z, f);
     let flowgates = flowgates_sum(b, q, r, z, f);
-    let own = limits_sum(b, q, r, z, f);
-    let last = plus(flowgates, own);
-    let rest = plus(zones, last);
+    let rest = plus(zones, flowgates);
     plus(balance, rest)
 }
 
@@ -228,27 +207,13 @@ fn steps_least(prices: Nets, on: bool, steps: OfferSteps) -> Grains
 
 // ---- its reserves
 
-// Their upper bounds.
-pub struct ReserveBounds {
-    pub regulation: Kw,
-    pub contingency: Kw,
-    pub on_line_short_term: Kw,
-    pub off_line_short_term: Kw,
-}
-
-pub fn reserve_bounds(b: &[u8], resource: Resource) -> ReserveBounds
+// Their upper bounds, `on` being whether it is on-line.
+pub fn reserve_bounds(b: &[u8], on: bool, resource: Resource) -> ReserveBounds
     requires { ⌜ (HeadIn (now b) × Valid (now b)) × Ranged resource ⌝ }
-    ensures { λ u. ⌜ ((s : Figures) → resource ≡ recordOf s → u ≡ reserveBoundsOf (caseOf (now (b .entry))) s) ⌝ }
+    ensures { λ u. ⌜ ((s : Figures) → on ≡ onLine s → resource ≡ recordOf s → u ≡ reserveBoundsOf (caseOf (now (b .entry))) s) ⌝ }
 {
-    let regulating = records::regulating_terms(b);
-    let contingency = records::contingency_terms(b);
-    let short_term = records::short_term_terms(b);
-    ReserveBounds {
-        regulation: limits::regulation_bound(regulating, resource),
-        contingency: limits::contingency_bound(contingency, resource),
-        on_line_short_term: limits::on_line_short_term_bound(short_term, resource),
-        off_line_short_term: limits::off_line_short_term_bound(resource),
-    }
+    let terms = limits::terms_in(b);
+    limits::reserve_bounds(terms, on, resource)
 }
 
 fn reserves_least(prices: Nets, uppers: ReserveBounds) -> Grains
@@ -264,28 +229,49 @@ fn reserves_least(prices: Nets, uppers: ReserveBounds) -> Grains
     plus(regulation, rest)
 }
 
-// Of resource i: its steps and its reserves.
-fn least_terms(b: &[u8], q: &[u8], r: usize, z: usize, f: usize, i: usize) -> Grains
-    requires { ⌜ PricesStand (now b) (now q) r z f × (i < r) ⌝ }
+// Of resource i, whose record has been read: its steps and its reserves.
+fn least_terms(
+    b: &[u8],
+    q: &[u8],
+    r: usize,
+    z: usize,
+    f: usize,
+    i: usize,
+    resource: Resource,
+) -> Grains
+    requires { ⌜ (PricesStand (now b) (now q) r z f × (i < r)) × (resource ≡ recordOf (caseOf (now b) .resource i)) ⌝ }
     ensures { λ g. ⌜ Figure g (leastTerms (now (b .entry)) (now (q .entry)) i) mostLeastTerms ⌝ }
 {
-    let prices = nets::nets_at(b, q, r, z, f, i);
-    let resource = readers::resource_at(b, r, z, f, i);
+    let prices = nets::nets_for(b, q, r, z, f, i, resource);
     let on = limits::on_line(resource);
-    let uppers = reserve_bounds(b, resource);
+    let uppers = reserve_bounds(b, on, resource);
     let steps = steps_least(prices, on, resource.steps);
     let reserves = reserves_least(prices, uppers);
     plus(steps, reserves)
 }
 
-fn least_sum(b: &[u8], q: &[u8], r: usize, z: usize, f: usize) -> Grains
+// ---- a resource, read once: its rows, and what is priced of it
+
+fn resource_terms(b: &[u8], q: &[u8], r: usize, z: usize, f: usize, i: usize) -> Grains
+    requires { ⌜ PricesStand (now b) (now q) r z f × (i < r) ⌝ }
+    ensures { λ g. ⌜ Figure g (resourceTerms (now (b .entry)) (now (q .entry)) i) mostResourceTerms ⌝ }
+{
+    let prices = entries::limit_prices_at(q, r, z, f, i);
+    let resource = readers::resource_at(b, r, z, f, i);
+    let held = limits::limits_of(resource);
+    let rows = limit_value(prices, held);
+    let least = least_terms(b, q, r, z, f, i, resource);
+    plus(rows, least)
+}
+
+fn resources_sum(b: &[u8], q: &[u8], r: usize, z: usize, f: usize) -> Grains
     requires { ⌜ PricesStand (now b) (now q) r z f ⌝ }
-    ensures { λ g. ⌜ Figure g (sumOf (leastTerms (now (b .entry)) (now (q .entry))) (upto r)) (64 * mostLeastTerms) ⌝ }
+    ensures { λ g. ⌜ Figure g (sumOf (resourceTerms (now (b .entry)) (now (q .entry))) (upto r)) (64 * mostResourceTerms) ⌝ }
 {
     let mut sum = Grains(0);
     let mut i: usize = 0;
     while i < r {
-        let terms = least_terms(b, q, r, z, f, i);
+        let terms = resource_terms(b, q, r, z, f, i);
         sum = plus(sum, terms);
         i += 1;
     }
@@ -332,23 +318,15 @@ fn curves_least(b: &[u8], q: &[u8], r: usize, z: usize, f: usize) -> Grains
     plus(operating, rest)
 }
 
-// Over all that is priced.
-fn priced_terms(b: &[u8], q: &[u8], r: usize, z: usize, f: usize) -> Grains
-    requires { ⌜ PricesStand (now b) (now q) r z f ⌝ }
-    ensures { λ g. ⌜ Figure g (sumOf (pricedTerm (now (b .entry)) (now (q .entry))) (priced (caseOf (now (b .entry))))) mostPricedTerms ⌝ }
-{
-    let resources = least_sum(b, q, r, z, f);
-    let cleared = curves_least(b, q, r, z, f);
-    plus(resources, cleared)
-}
-
 // ---- the bound
 
 pub fn bound(b: &[u8], q: &[u8], r: usize, z: usize, f: usize) -> Grains
     requires { ⌜ Standing (now b) (now q) r z f ⌝ }
     ensures { λ g. ⌜ g ≡ grains (bound (caseOf (now (b .entry))) (certificateOf (now (q .entry)) .price)) ⌝ }
 {
-    let rows = row_terms(b, q, r, z, f);
-    let least = priced_terms(b, q, r, z, f);
-    plus(rows, least)
+    let common = common_terms(b, q, r, z, f);
+    let resources = resources_sum(b, q, r, z, f);
+    let cleared = curves_least(b, q, r, z, f);
+    let rest = plus(resources, cleared);
+    plus(common, rest)
 }

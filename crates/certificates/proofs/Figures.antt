@@ -8,17 +8,15 @@ use lib.Signed.{leZ}
 use Rattle.market.specs.declared.Kw.{Kw}
 use Rattle.market.specs.declared.CurveSteps.{CurveSteps}
 use Rattle.market.specs.declared.Resource.{Resource}
-use Rattle.market.specs.Case.{Curve, operating, regulatingPlusSpinning, regulating, shortTerm, curveNumber, regulatingReserve, contingencyReserve, shortTermReserve}
+use Rattle.market.specs.Case.{Curve, operating, regulatingPlusSpinning, regulating, shortTerm, curveNumber}
 use Rattle.market.specs.CaseFile.{caseOf, resourceAt, resourcePlace}
 use Rattle.market.specs.Records.{recordOf, curveStepsOf}
 use Rattle.market.specs.Outcome.{Valid}
 use Rattle.market.proofs.Ranges.{valid-ranges}
 use Rattle.records.specs.Ranged.{Ranged, RangedCurve}
 use Rattle.records.proofs.Places.{resource-is, resources-is}
-use Rattle.records.proofs.Ranged.{curve-ranged, valid-resource, valid-terms}
-use Rattle.certificates.specs.declared.Terms.{Terms}
+use Rattle.records.proofs.Ranged.{curve-ranged, valid-resource}
 use Rattle.certificates.specs.Filing.{Filing}
-use Rattle.certificates.specs.Bounding.{termsOf, TermsRanged}
 
 -- ---- curves by their number
 pub curve-at-ranged : (b : List ℕ) → Valid b → (k : ℕ) → k < 4 → (o : CurveSteps) → ((c : Curve) → curveNumber c ≡ k → o ≡ curveStepsOf (caseOf b) c) → RangedCurve o
@@ -28,14 +26,7 @@ curve-at-ranged b v (suc (suc zero)) h o e = rw (e regulating refl) (curve-range
 curve-at-ranged b v (suc (suc (suc zero))) h o e = rw (e shortTerm refl) (curve-ranged (valid-ranges b v) shortTerm)
 curve-at-ranged b v (suc (suc (suc (suc k)))) h o e = absurd (omega arith)
 
--- ---- the terms of a valid case, and its resources
-terms-of-ranged : (b : List ℕ) → Valid b → TermsRanged (termsOf (caseOf b))
-unfolding termsOf
-terms-of-ranged b v = record { regulating = valid-terms b v regulatingReserve; contingency = valid-terms b v contingencyReserve; short-term = valid-terms b v shortTermReserve }
-
-pub terms-ranged : (b : List ℕ) {t : Terms} → Valid b → t ≡ termsOf (caseOf b) → TermsRanged t
-terms-ranged b v e = rw e (terms-of-ranged b v)
-
+-- ---- resources
 module _ {b q : List ℕ} {r z f : ℕ} (h : Filing b q r z f) where
   pub record-is : {s : Resource} (i : ℕ) → s ≡ recordOf (resourceAt b (resourcePlace z i)) → s ≡ recordOf (caseOf b .resource i)
   record-is i e = e ∙ ap recordOf (resource-is (h .case-bytes) i)

@@ -1,3 +1,2 @@
 pub mod Grounds13
 pub mod Filing
-pub mod Bounding

@@ -1,11 +1,11 @@
 // The certificate check as far as the upper bounds: grounds 1 to 13 of a case and a certificate, each tested only where no
 // earlier one holds anywhere in the files (01, 'How each operation refuses').
 use cases::Stage;
+use limits::Terms;
 use market::Amounts;
 use market::CurveAmounts;
 use market::Kw;
 use market::Refusal;
-use market::ReserveTerms;
 use market::Resource;
 ghost use mathlib.Core.Path.{_≡_};
 ghost use mathlib.Core.List.{map};
@@ -23,28 +23,11 @@ ghost use Rattle.market.specs.Outcome.{Valid, withinBound};
 ghost use Rattle.cases.specs.Stages.{stageOf};
 ghost use Rattle.records.specs.Places.{HeadIn, CurveIn};
 ghost use Rattle.records.specs.Ranged.{Ranged};
+ghost use Rattle.limits.specs.Together.{termsOf, TermsRanged};
 ghost use Rattle.certificates.specs.Grounds13.{priceGround, boundGround, groundsTo11, groundsTo13};
 ghost use Rattle.certificates.specs.Filing.{Filing, Filed, Advanced};
-ghost use Rattle.certificates.specs.Bounding.{termsOf, TermsRanged};
-
-// What the case says of each reserve.
-pub struct Terms {
-    pub regulating: ReserveTerms,
-    pub contingency: ReserveTerms,
-    pub short_term: ReserveTerms,
-}
 
 // ---- upper bounds
-fn terms_in(b: &[u8]) -> Terms
-    requires { ⌜ HeadIn (now b) ⌝ }
-    ensures { λ t. ⌜ t ≡ termsOf (caseOf (now (b .entry))) ⌝ }
-{
-    Terms {
-        regulating: records::regulating_terms(b),
-        contingency: records::contingency_terms(b),
-        short_term: records::short_term_terms(b),
-    }
-}
 
 // Of the cleared quantity of the curve of number k.
 fn curve_bound_at(b: &[u8], k: usize) -> Kw
@@ -71,12 +54,18 @@ fn service_bounds(r: Resource, terms: Terms) -> Amounts
     requires { ⌜ Ranged r × TermsRanged terms ⌝ }
     ensures { λ m. ⌜ ((c : Case) (i : ℕ) → terms ≡ termsOf c → r ≡ recordOf (c .resource i) → m ≡ amountsOf (upperBound c) i) ⌝ }
 {
+    let on = limits::on_line(r);
+    let reserves = limits::reserve_bounds(terms, on, r);
+    let regulation = reserves.regulation;
+    let contingency = reserves.contingency;
+    let on_line_short_term = reserves.on_line_short_term;
+    let off_line_short_term = reserves.off_line_short_term;
     Amounts {
-        energy: limits::energy_bound(r),
-        regulation: limits::regulation_bound(terms.regulating, r),
-        contingency: limits::contingency_bound(terms.contingency, r),
-        on_line_short_term: limits::on_line_short_term_bound(terms.short_term, r),
-        off_line_short_term: limits::off_line_short_term_bound(r),
+        energy: limits::energy_bound(on, r),
+        regulation,
+        contingency,
+        on_line_short_term,
+        off_line_short_term,
     }
 }
 
@@ -129,7 +118,7 @@ fn first_provided_above(b: &[u8], q: &[u8], r: usize, z: usize, f: usize) -> u32
     requires { ⌜ Filing (now b) (now q) r z f ⌝ }
     ensures { λ n. ⌜ foundAt AboveBound n ≡ firstFailing (withinBound (caseOf (now (b .entry))) (certificateOf (now (q .entry)))) AboveBound 5 (across (λ i. map (Provided i) services) (upto r)) ⌝ }
 {
-    let terms = terms_in(b);
+    let terms = limits::terms_in(b);
     let mut place: u32 = 5;
     let mut i: usize = 0;
     while i < r {

@@ -23,7 +23,8 @@ use Rattle.records.specs.Ranged.{offerStep, curveStep}
 use Rattle.records.proofs.Ranged.{offer-step-is, curve-step-is}
 use Rattle.nets.specs.NetPrices.{netsOf}
 use Rattle.nets.proofs.Known.{step-is}
-use Rattle.bounds.specs.Terms.{reserveBoundsOf, stepLeast, curveStepLeast}
+use Rattle.limits.specs.Together.{reserveBoundsOf}
+use Rattle.bounds.specs.Terms.{stepLeast, curveStepLeast}
 use Rattle.bounds.proofs.PricedTerms.{step-least-is, curve-step-least-is}
 use Rattle.costs.specs.Steps.{widthsOf}
 use Rattle.costs.proofs.Filling.{filled-same}

@@ -31,9 +31,9 @@ use Rattle.nets.specs.declared.Nets.{Nets}
 use Rattle.nets.specs.NetPrices.{netsOf}
 use Rattle.nets.specs.Sizes.{SmallNets}
 use Rattle.nets.proofs.Known.{nets-small}
-use Rattle.bounds.specs.declared.ReserveBounds.{ReserveBounds}
+use Rattle.limits.specs.declared.ReserveBounds.{ReserveBounds}
 use Rattle.bounds.specs.Sizes.{SmallBounds}
-use Rattle.bounds.specs.Terms.{reserveBoundsOf}
+use Rattle.limits.specs.Together.{reserveBoundsOf}
 use Rattle.bounds.proofs.PricedTerms.{bounds-small}
 use Rattle.costs.proofs.Known.{resource-known, energy-known, curve-known, cleared-known}
 use Rattle.charges.specs.declared.ClearedCurve.{ClearedCurve}

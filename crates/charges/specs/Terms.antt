@@ -21,7 +21,7 @@ use Rattle.market.specs.Charges.{pricedCharge}
 use Rattle.market.specs.Records.{power, millicents, curveStepsOf}
 use Rattle.records.specs.Ranged.{offerStep, curveStep}
 use Rattle.nets.specs.declared.Nets.{Nets}
-use Rattle.bounds.specs.declared.ReserveBounds.{ReserveBounds}
+use Rattle.limits.specs.declared.ReserveBounds.{ReserveBounds}
 use Rattle.bounds.specs.Terms.{leastOf, stepBound}
 use Rattle.costs.specs.Steps.{widthsOf}
 use Rattle.charges.specs.declared.ClearedCurve.{ClearedCurve}

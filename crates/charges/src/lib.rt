@@ -19,7 +19,7 @@ ghost use Rattle.nets.specs.Sizes.{SmallNets};
 ghost use Rattle.bounds.specs.Sizes.{SmallBounds};
 ghost use Rattle.charges.specs.Sizes.{ChargeRoom, StepRoom, StepsRoom, SmallReserves, CurveStepRoom, CurveRoom, ClearedRoom};
 ghost use Rattle.charges.specs.Terms.{chargeIn, resourceCharges, chargeOf, stepCharge, energyCharge, reserveCharges, curveStepCharge, curveCharge, clearedCurve, curveCharges};
-use bounds::ReserveBounds;
+use limits::ReserveBounds;
 use market::Amounts;
 use market::CurveSteps;
 use market::Grains;
@@ -105,7 +105,7 @@ fn write_resource(b: &[u8], q: &[u8], r: usize, z: usize, f: usize, i: usize, ou
     let resource = readers::resource_at(b, r, z, f, i);
     let amounts = entries::amounts_at(q, r, z, f, i);
     let on = limits::on_line(resource);
-    let uppers = bounds::reserve_bounds(b, resource);
+    let uppers = bounds::reserve_bounds(b, on, resource);
     write_steps(prices, on, resource.steps, amounts.energy, out);
     write_reserves(prices, amounts, uppers, &mut out[10..]);
 }

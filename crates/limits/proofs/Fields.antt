@@ -9,6 +9,10 @@ use Rattle.market.specs.declared.Kw.{Kw}
 use Rattle.market.specs.declared.Resource.{Resource}
 
 module _ {r : Resource} (s : Figures) (e : r ≡ recordOf s) where
+  pub state-is : r .state ≡ stateOf s
+  unfolding recordOf
+  state-is = ap (λ (x : Resource). x .state) e
+
   pub economic-max-is : r .limits .«economic_max» ≡ power (s .economicMax)
   unfolding recordOf outputLimitsOf
   economic-max-is = ap (λ (x : Resource). x .limits .«economic_max») e

@@ -11,10 +11,12 @@ ghost use Rattle.market.specs.Case.{Case, Resource as Figures, Curve, Reserve, 
 ghost use Rattle.market.specs.Availability.{onLine};
 ghost use Rattle.market.specs.Limits.{MAX, MIN, HI, LO, rampFloor};
 ghost use Rattle.market.specs.UpperBounds.{RAMP, SHARE, onLineBound, serviceBound, upperBound, energy, regulation, contingency, onLineShortTerm, offLineShortTerm, Cleared};
-ghost use Rattle.market.specs.Records.{power, recordOf, reserveTermsOf, offerStepsOf, curveStepsOf};
+ghost use Rattle.market.specs.CaseFile.{caseOf};
+ghost use Rattle.market.specs.Records.{power, stateOf, recordOf, reserveTermsOf, offerStepsOf, curveStepsOf};
+ghost use Rattle.records.specs.Places.{HeadIn};
 ghost use Rattle.records.specs.Ranged.{UpTo, Ranged, RangedSteps, RangedTerms, RangedCurve};
 ghost use Rattle.limits.specs.OffLine.{offLineContingency};
-ghost use Rattle.limits.specs.Together.{limitsOf};
+ghost use Rattle.limits.specs.Together.{limitsOf, termsOf, TermsRanged, reserveBoundsOf};
 ghost use Rattle.limits.specs.OnLine.{atLeast500, conventionalOnLine, intermittentOnLine, externalOnLine};
 use market::CurveSteps;
 use market::Kw;
@@ -158,20 +160,27 @@ fn external(t: State) -> bool
     status.active_schedule()
 }
 
+// Of its state alone.
+pub fn state_on_line(t: State) -> bool
+    ensures { λ v. ⌜ ((s : Figures) → t ≡ stateOf s → v ≡ onLine s) ⌝ }
+{
+    if conventional(t) {
+        return true;
+    }
+    if intermittent(t) {
+        return true;
+    }
+    external(t)
+}
+
 pub fn on_line(r: Resource) -> bool
     ensures { λ t. ⌜ ((s : Figures) → r ≡ recordOf s → t ≡ onLine s) ⌝ }
 {
     let state = r.state;
-    if conventional(state) {
-        return true;
-    }
-    if intermittent(state) {
-        return true;
-    }
-    external(state)
+    state_on_line(state)
 }
 
-// ---- limits
+// ---- limits: whether the resource is on-line, `on`, is decided once for all of them
 
 // Flag 1.
 fn regulates(r: Resource) -> bool
@@ -194,11 +203,11 @@ fn in_force(released: bool, emergency: Kw, regulates: bool, regulating: Kw, econ
     economic
 }
 
-pub fn max_limit(r: Resource) -> Kw
-    ensures { λ m. ⌜ ((s : Figures) → r ≡ recordOf s → m ≡ power (MAX s)) ⌝ }
+fn max_limit(on: bool, r: Resource) -> Kw
+    ensures { λ m. ⌜ ((s : Figures) → on ≡ onLine s → r ≡ recordOf s → m ≡ power (MAX s)) ⌝ }
 {
     let limits = r.limits;
-    if !on_line(r) {
+    if !on {
         return limits.economic_max;
     }
     let flags = r.state.flags;
@@ -213,10 +222,10 @@ pub fn max_limit(r: Resource) -> Kw
     )
 }
 
-pub fn min_limit(r: Resource) -> Kw
-    ensures { λ m. ⌜ ((s : Figures) → r ≡ recordOf s → m ≡ power (MIN s)) ⌝ }
+fn min_limit(on: bool, r: Resource) -> Kw
+    ensures { λ m. ⌜ ((s : Figures) → on ≡ onLine s → r ≡ recordOf s → m ≡ power (MIN s)) ⌝ }
 {
-    if !on_line(r) {
+    if !on {
         return Kw(0);
     }
     let limits = r.limits;
@@ -232,11 +241,11 @@ pub fn min_limit(r: Resource) -> Kw
     )
 }
 
-pub fn high_limit(r: Resource) -> Kw
+fn high_limit(on: bool, r: Resource) -> Kw
     requires { ⌜ Ranged r ⌝ }
-    ensures { λ m. ⌜ ((s : Figures) → r ≡ recordOf s → m ≡ power (HI s)) ⌝ }
+    ensures { λ m. ⌜ ((s : Figures) → on ≡ onLine s → r ≡ recordOf s → m ≡ power (HI s)) ⌝ }
 {
-    if !on_line(r) {
+    if !on {
         return r.limits.economic_max;
     }
     let climb = in_five_minutes(r.ramps.up);
@@ -252,11 +261,11 @@ fn ramp_floor(r: Resource) -> Kw
     less(r.starts.initial, fall)
 }
 
-pub fn low_limit(r: Resource) -> Kw
+fn low_limit(on: bool, r: Resource) -> Kw
     requires { ⌜ Ranged r ⌝ }
-    ensures { λ m. ⌜ ((s : Figures) → r ≡ recordOf s → m ≡ power (LO s)) ⌝ }
+    ensures { λ m. ⌜ ((s : Figures) → on ≡ onLine s → r ≡ recordOf s → m ≡ power (LO s)) ⌝ }
 {
-    if !on_line(r) {
+    if !on {
         return Kw(0);
     }
     let floor = ramp_floor(r);
@@ -279,18 +288,37 @@ pub fn limits_of(r: Resource) -> ResourceLimits
     requires { ⌜ Ranged r ⌝ }
     ensures { λ l. ⌜ ((s : Figures) → r ≡ recordOf s → l ≡ limitsOf s) ⌝ }
 {
+    let on = on_line(r);
     ResourceLimits {
-        max: max_limit(r),
-        min: min_limit(r),
-        high: high_limit(r),
-        low: low_limit(r),
+        max: max_limit(on, r),
+        min: min_limit(on, r),
+        high: high_limit(on, r),
+        low: low_limit(on, r),
     }
 }
 
 // ---- what bounds a reserve
 
+// What the case says of each reserve.
+pub struct Terms {
+    pub regulating: ReserveTerms,
+    pub contingency: ReserveTerms,
+    pub short_term: ReserveTerms,
+}
+
+pub fn terms_in(b: &[u8]) -> Terms
+    requires { ⌜ HeadIn (now b) ⌝ }
+    ensures { λ t. ⌜ t ≡ termsOf (caseOf (now (b .entry))) ⌝ }
+{
+    Terms {
+        regulating: records::regulating_terms(b),
+        contingency: records::contingency_terms(b),
+        short_term: records::short_term_terms(b),
+    }
+}
+
 // RAMP
-pub fn ramp_bound(terms: ReserveTerms, r: Resource) -> Kw
+fn ramp_bound(terms: ReserveTerms, r: Resource) -> Kw
     requires { ⌜ RangedTerms terms × Ranged r ⌝ }
     ensures { λ m. ⌜ ((c : Case) (p : Reserve) (s : Figures) → terms ≡ reserveTermsOf c p → r ≡ recordOf s → m ≡ power (RAMP c p s)) ⌝ }
 {
@@ -300,7 +328,7 @@ pub fn ramp_bound(terms: ReserveTerms, r: Resource) -> Kw
 }
 
 // SHARE
-pub fn share_bound(terms: ReserveTerms) -> Kw
+fn share_bound(terms: ReserveTerms) -> Kw
     requires { ⌜ RangedTerms terms ⌝ }
     ensures { λ m. ⌜ ((c : Case) (p : Reserve) → terms ≡ reserveTermsOf c p → m ≡ power (SHARE c p)) ⌝ }
 {
@@ -308,18 +336,17 @@ pub fn share_bound(terms: ReserveTerms) -> Kw
     portion(terms.requirement, share, 1000)
 }
 
-// The least of RAMP, SHARE and MAX.
-fn on_line_bound(terms: ReserveTerms, r: Resource) -> Kw
+// The least of RAMP, SHARE and MAX, which is `most`.
+fn on_line_bound(most: Kw, terms: ReserveTerms, r: Resource) -> Kw
     requires { ⌜ RangedTerms terms × Ranged r ⌝ }
-    ensures { λ m. ⌜ ((c : Case) (p : Reserve) (s : Figures) → terms ≡ reserveTermsOf c p → r ≡ recordOf s → m ≡ power (onLineBound c p s)) ⌝ }
+    ensures { λ m. ⌜ ((c : Case) (p : Reserve) (s : Figures) → most ≡ power (MAX s) → terms ≡ reserveTermsOf c p → r ≡ recordOf s → m ≡ power (onLineBound c p s)) ⌝ }
 {
     let ramp = ramp_bound(terms, r);
     let share = share_bound(terms);
-    let most = max_limit(r);
     lesser(ramp, lesser(share, most))
 }
 
-// ---- upper bounds of a resource's five quantities
+// ---- upper bounds of a resource's five quantities, of whether it is on-line, `on`, and of its MAX, `most`
 
 // The widths of the energy steps together.
 fn offered(steps: OfferSteps) -> Kw
@@ -337,28 +364,28 @@ fn offered(steps: OfferSteps) -> Kw
 }
 
 // e
-pub fn energy_bound(r: Resource) -> Kw
+pub fn energy_bound(on: bool, r: Resource) -> Kw
     requires { ⌜ Ranged r ⌝ }
-    ensures { λ m. ⌜ ((c : Case) (s : Figures) → r ≡ recordOf s → m ≡ power (serviceBound c s energy)) ⌝ }
+    ensures { λ m. ⌜ ((c : Case) (s : Figures) → on ≡ onLine s → r ≡ recordOf s → m ≡ power (serviceBound c s energy)) ⌝ }
 {
-    if !on_line(r) {
+    if !on {
         return Kw(0);
     }
     offered(r.steps)
 }
 
 // g
-pub fn regulation_bound(terms: ReserveTerms, r: Resource) -> Kw
+fn regulation_bound(on: bool, most: Kw, terms: ReserveTerms, r: Resource) -> Kw
     requires { ⌜ RangedTerms terms × Ranged r ⌝ }
-    ensures { λ m. ⌜ ((c : Case) (s : Figures) → terms ≡ reserveTermsOf c regulatingReserve → r ≡ recordOf s → m ≡ power (serviceBound c s regulation)) ⌝ }
+    ensures { λ m. ⌜ ((c : Case) (s : Figures) → on ≡ onLine s → most ≡ power (MAX s) → terms ≡ reserveTermsOf c regulatingReserve → r ≡ recordOf s → m ≡ power (serviceBound c s regulation)) ⌝ }
 {
-    if !on_line(r) {
+    if !on {
         return Kw(0);
     }
     if !regulates(r) {
         return Kw(0);
     }
-    on_line_bound(terms, r)
+    on_line_bound(most, terms, r)
 }
 
 // Spinning, or on-line supplemental.
@@ -389,40 +416,40 @@ fn off_line_contingency_bound(terms: ReserveTerms, r: Resource) -> Kw
 }
 
 // c
-pub fn contingency_bound(terms: ReserveTerms, r: Resource) -> Kw
+fn contingency_bound(on: bool, most: Kw, terms: ReserveTerms, r: Resource) -> Kw
     requires { ⌜ RangedTerms terms × Ranged r ⌝ }
-    ensures { λ m. ⌜ ((c : Case) (s : Figures) → terms ≡ reserveTermsOf c contingencyReserve → r ≡ recordOf s → m ≡ power (serviceBound c s contingency)) ⌝ }
+    ensures { λ m. ⌜ ((c : Case) (s : Figures) → on ≡ onLine s → most ≡ power (MAX s) → terms ≡ reserveTermsOf c contingencyReserve → r ≡ recordOf s → m ≡ power (serviceBound c s contingency)) ⌝ }
 {
-    if !on_line(r) {
+    if !on {
         return off_line_contingency_bound(terms, r);
     }
     let state = r.state;
     if !carries_contingency(state) {
         return Kw(0);
     }
-    on_line_bound(terms, r)
+    on_line_bound(most, terms, r)
 }
 
 // s
-pub fn on_line_short_term_bound(terms: ReserveTerms, r: Resource) -> Kw
+fn on_line_short_term_bound(on: bool, most: Kw, terms: ReserveTerms, r: Resource) -> Kw
     requires { ⌜ RangedTerms terms × Ranged r ⌝ }
-    ensures { λ m. ⌜ ((c : Case) (s : Figures) → terms ≡ reserveTermsOf c shortTermReserve → r ≡ recordOf s → m ≡ power (serviceBound c s onLineShortTerm)) ⌝ }
+    ensures { λ m. ⌜ ((c : Case) (s : Figures) → on ≡ onLine s → most ≡ power (MAX s) → terms ≡ reserveTermsOf c shortTermReserve → r ≡ recordOf s → m ≡ power (serviceBound c s onLineShortTerm)) ⌝ }
 {
-    if !on_line(r) {
+    if !on {
         return Kw(0);
     }
     let flags = r.state.flags;
     if !flags.on_line_short_term() {
         return Kw(0);
     }
-    on_line_bound(terms, r)
+    on_line_bound(most, terms, r)
 }
 
 // o
-pub fn off_line_short_term_bound(r: Resource) -> Kw
-    ensures { λ m. ⌜ ((c : Case) (s : Figures) → r ≡ recordOf s → m ≡ power (serviceBound c s offLineShortTerm)) ⌝ }
+fn off_line_short_term_bound(on: bool, r: Resource) -> Kw
+    ensures { λ m. ⌜ ((c : Case) (s : Figures) → on ≡ onLine s → r ≡ recordOf s → m ≡ power (serviceBound c s offLineShortTerm)) ⌝ }
 {
-    if on_line(r) {
+    if on {
         return Kw(0);
     }
     let flags = r.state.flags;
@@ -430,6 +457,27 @@ pub fn off_line_short_term_bound(r: Resource) -> Kw
         return Kw(0);
     }
     lesser(r.limits.economic_max, r.starts.off_line_short_term)
+}
+
+// Of its four reserves.
+pub struct ReserveBounds {
+    pub regulation: Kw,
+    pub contingency: Kw,
+    pub on_line_short_term: Kw,
+    pub off_line_short_term: Kw,
+}
+
+pub fn reserve_bounds(terms: Terms, on: bool, r: Resource) -> ReserveBounds
+    requires { ⌜ TermsRanged terms × Ranged r ⌝ }
+    ensures { λ u. ⌜ ((c : Case) (s : Figures) → terms ≡ termsOf c → on ≡ onLine s → r ≡ recordOf s → u ≡ reserveBoundsOf c s) ⌝ }
+{
+    let most = max_limit(on, r);
+    ReserveBounds {
+        regulation: regulation_bound(on, most, terms.regulating, r),
+        contingency: contingency_bound(on, most, terms.contingency, r),
+        on_line_short_term: on_line_short_term_bound(on, most, terms.short_term, r),
+        off_line_short_term: off_line_short_term_bound(on, r),
+    }
 }
 
 // ---- of a cleared quantity

@@ -140,12 +140,19 @@ fn spinning(r: Resource) -> bool
     flags.spinning()
 }
 
-// The net prices of resource i.
-pub fn nets_at(b: &[u8], q: &[u8], r: usize, z: usize, f: usize, i: usize) -> Nets
-    requires { ⌜ PricesStand (now b) (now q) r z f × (i < r) ⌝ }
+// The net prices of resource i, whose record has been read.
+pub fn nets_for(
+    b: &[u8],
+    q: &[u8],
+    r: usize,
+    z: usize,
+    f: usize,
+    i: usize,
+    resource: Resource,
+) -> Nets
+    requires { ⌜ (PricesStand (now b) (now q) r z f × (i < r)) × (resource ≡ recordOf (caseOf (now b) .resource i)) ⌝ }
     ensures { λ n. ⌜ n ≡ netsOf (caseOf (now (b .entry))) (certificateOf (now (q .entry)) .price) i ⌝ }
 {
-    let resource = readers::resource_at(b, r, z, f, i);
     let state = resource.state;
     let zone = state.zone as usize - 1;
     let spins = spinning(resource);
@@ -153,4 +160,13 @@ pub fn nets_at(b: &[u8], q: &[u8], r: usize, z: usize, f: usize, i: usize) -> Ne
     let lmp = prices::lmp(b, q, r, z, f, i);
     let prices = prices::zone_prices(b, q, r, z, f, zone);
     nets_of(resource.offers, spins, own, lmp, prices)
+}
+
+// Of resource i.
+pub fn nets_at(b: &[u8], q: &[u8], r: usize, z: usize, f: usize, i: usize) -> Nets
+    requires { ⌜ PricesStand (now b) (now q) r z f × (i < r) ⌝ }
+    ensures { λ n. ⌜ n ≡ netsOf (caseOf (now (b .entry))) (certificateOf (now (q .entry)) .price) i ⌝ }
+{
+    let resource = readers::resource_at(b, r, z, f, i);
+    nets_for(b, q, r, z, f, i, resource)
 }

@@ -1,5 +1,5 @@
 -- How large the amounts of a standing certificate are, and what the resources give to the reserve rows.
-use mathlib.Core.Path.{_≡_, refl}
+use mathlib.Core.Path.{_≡_, refl, ap, _∙_}
 use mathlib.Core.Bool.{Bool, true, false, cond}
 use mathlib.Core.List.{List}
 use Prim.Native.Nat.{ℕ, suc, _+_, _<_, _≤_}
@@ -8,17 +8,23 @@ use lib.Dec.{eqb}
 use lib.IntN.{ℤ, pos, natAbs}
 use borrow.Author.Tests.{eq-eqb, ne-eqb}
 use Rattle.arith.proofs.Magnitudes.{abs-add}
-use Rattle.market.specs.Case.{Case, Curve, operating, regulatingPlusSpinning, regulating, shortTerm}
+use Rattle.market.specs.Case.{Case, Resource as Figures, Curve, operating, regulatingPlusSpinning, regulating, shortTerm}
 use Rattle.market.specs.CaseFile.{caseOf}
 use Rattle.market.specs.UpperBounds.{Service, energy, regulation, contingency, onLineShortTerm, offLineShortTerm, Provided, upperBound, Schedule}
 use Rattle.market.specs.Certificate.{certificateOf}
 use Rattle.market.specs.InWords.{isSpinning, kwOf, reserveOf, reserveInZone}
-use Rattle.market.specs.Records.{kw, amountsOf, curveAmountsOf}
+use Rattle.market.specs.Records.{kw, stateOf, amountsOf, curveAmountsOf}
+use Rattle.market.specs.declared.State.{State}
 use Rattle.market.proofs.Families.{at-quantity}
 use Rattle.market.proofs.Sizes.{amount-most}
 use Rattle.prices.specs.Standing.{Standing}
 use Rattle.prices.proofs.Known.{case-ranges, resource-below}
 use Rattle.reserves.specs.Given.{SmallAmounts, givenBy}
+
+-- a test t of a state's flags is one of the figures'
+pub state-flags-are : {x : State} (s : Figures) → x ≡ stateOf s → (f : ℕ → Bool) {t : Bool} → t ≡ f (x .flags .0) → t ≡ f (s .flags)
+unfolding stateOf
+state-flags-are s e f told = told ∙ ap (λ (x : State). f (x .flags .0)) e
 
 -- ---- by cases of a test
 abs-if : (t : Bool) (v : ℤ) {m : ℕ} → natAbs v ≤ m → natAbs (cond t v (pos 0)) ≤ m

@@ -9,24 +9,24 @@ ghost use Rattle.market.specs.Case.{Resource as Figures};
 ghost use Rattle.market.specs.CaseFile.{caseOf};
 ghost use Rattle.market.specs.Certificate.{certificateOf};
 ghost use Rattle.market.specs.InWords.{isSpinning, reserveOf, reserveInZone};
-ghost use Rattle.market.specs.Records.{kw, curveAmountsOf, recordOf};
+ghost use Rattle.market.specs.Records.{kw, curveAmountsOf, stateOf};
 ghost use Rattle.prices.specs.Standing.{Standing};
 ghost use Rattle.reserves.specs.Given.{SmallAmounts, SumsRoom, givenBy, addedAmounts};
 use market::Amounts;
 use market::CurveAmounts;
 use market::Kw;
-use market::Resource;
+use market::State;
 
 // ---- of one resource
 
 // What of its contingency reserve is spinning.
-fn spinning(resource: Resource, contingency: Kw) -> Kw
-    ensures { λ a. ⌜ ((s : Figures) → resource ≡ recordOf s → a ≡ kw (cond (isSpinning s) (contingency .0) (pos 0))) ⌝ }
+fn spinning(state: State, contingency: Kw) -> Kw
+    ensures { λ a. ⌜ ((s : Figures) → state ≡ stateOf s → a ≡ kw (cond (isSpinning s) (contingency .0) (pos 0))) ⌝ }
 {
-    if !limits::on_line(resource) {
+    if !limits::state_on_line(state) {
         return Kw(0);
     }
-    let flags = resource.state.flags;
+    let flags = state.flags;
     if flags.spinning() {
         return contingency;
     }
@@ -54,7 +54,7 @@ pub fn reserve_given(b: &[u8], q: &[u8], r: usize, z: usize, f: usize, i: usize)
 {
     let resource = readers::resource_at(b, r, z, f, i);
     let a = entries::amounts_at(q, r, z, f, i);
-    let spin = spinning(resource, a.contingency);
+    let spin = spinning(resource.state, a.contingency);
     given(a, spin)
 }
 

@@ -1,3 +1,4 @@
+-- `bounds::least_terms` meets its contract: steps and reserves at the net prices. Assumes nothing.
 use mathlib.Core.Path.{_≡_, _∙_}
 use native.Mathlib.Omega.{arith}
 use Rattle.market.specs.CaseFile.{caseOf}
@@ -6,54 +7,51 @@ use Rattle.market.specs.Records.{recordOf}
 use Rattle.records.proofs.Places.{head-in}
 use Rattle.records.proofs.Ranged.{valid-resource}
 use Rattle.prices.proofs.Known.{case-ranges, prices-in-range, resource-below}
-use Rattle.nets.proofs.Known.{resource-read, nets-small}
+use Rattle.nets.proofs.Known.{nets-small}
 use Rattle.bounds.proofs.PricedTerms.{steps-small, bounds-small, resource-least-is}
 use borrow.Author.Needs.{needs}
 use Rattle.bounds.proofs.least_terms.Statement.{statement}
 use Rattle.bounds.proofs.least_terms.Tie as tie
 
-resource : (c : tie.After-resource-at) →
-    let s = c .before .before .before .before in
-    c .resource-at .result ≡ recordOf (caseOf (s .args .b .now) .resource (s .args .i))
-resource c = let s = c .before .before .before .before in resource-read (s .pre .0) (s .args .i) (c .resource-at .ensures)
-
 reserve-bounds-requires : tie.Need-reserve-bounds-requires
 reserve-bounds-requires c κs =
-    let s = c .before .before .before .before .before in
-    let p = s .pre .0 in
-    ((head-in (p .case-bytes), p .valid), rw (resource (c .before)) (valid-resource (s .args .b .now) (p .valid) (s .args .i) (resource-below p (s .pre .1))))
+    let s = c .before .before .before .before in
+    let p = s .pre .0 .0 in
+    ((head-in (p .case-bytes), p .valid), rw (s .pre .1) (valid-resource (s .args .b .now) (p .valid) (s .args .i) (resource-below p (s .pre .0 .1))))
 
 steps-least-requires : tie.Need-steps-least-requires
 unfolding recordOf
 steps-least-requires c κs =
-    let s = c .before .before .before .before .before .before in
-    let p = s .pre .0 in
-    let n = resource-below p (s .pre .1) in
-    rw (c .before .before .before .nets-at .ensures, resource (c .before .before)) (nets-small _ _ (case-ranges p) (prices-in-range p) (s .args .i) n, steps-small _ (case-ranges p) (s .args .i) n)
+    let s = c .before .before .before .before .before in
+    let p = s .pre .0 .0 in
+    let n = resource-below p (s .pre .0 .1) in
+    rw (c .before .before .nets-for .ensures, s .pre .1) (nets-small _ _ (case-ranges p) (prices-in-range p) (s .args .i) n, steps-small _ (case-ranges p) (s .args .i) n)
 
 reserves-least-requires : tie.Need-reserves-least-requires
 reserves-least-requires c κs =
-    let s = c .before .before .before .before .before .before .before in
-    let p = s .pre .0 in
-    let n = resource-below p (s .pre .1) in
-    rw (c .before .before .before .before .nets-at .ensures, c .before .reserve-bounds .ensures (caseOf (s .args .b .now) .resource (s .args .i)) (resource (c .before .before .before)))
+    let s = c .before .before .before .before .before .before in
+    let p = s .pre .0 .0 in
+    let n = resource-below p (s .pre .0 .1) in
+    let figures = caseOf (s .args .b .now) .resource (s .args .i) in
+    rw (c .before .before .before .nets-for .ensures, c .before .reserve-bounds .ensures figures (c .before .before .on-line .ensures figures (s .pre .1)) (s .pre .1))
     (nets-small _ _ (case-ranges p) (prices-in-range p) (s .args .i) n, bounds-small _ (case-ranges p) (s .args .i) n)
 
 returns : tie.Need-returns
 unfolding recordOf
 returns c =
-    let s = c .before .before .before .before .before .before .before .before .before in
+    let s = c .before .before .before .before .before .before .before .before in
     let i = s .args .i in
-    let p = s .pre .0 in
+    let p = s .pre .0 .0 in
     let k = caseOf (s .args .b .now) in
-    let r = resource (c .before .before .before .before .before) in
+    let r = s .pre .1 in
+    let on = c .before .before .before .before .on-line .ensures (k .resource i) r in
     record {
       is =
           c .plus .ensures .is
-          ∙ rw (c .before .before .steps-least .ensures .is, c .before .reserves-least .ensures .is, c .before .before .before .before .before .before .nets-at .ensures, c .before .before .before .before .on-line .ensures (k .resource i) r, r, c .before .before .before .reserve-bounds .ensures (k .resource i) r)
-          (resource-least-is k (certificateOf (s .args .q .now) .price) (case-ranges p) (prices-in-range p) i (resource-below p (s .pre .1)));
+          ∙ rw (c .before .before .steps-least .ensures .is, c .before .reserves-least .ensures .is, c .before .before .before .before .before .nets-for .ensures, on, r, c .before .before .before .reserve-bounds .ensures (k .resource i) on r)
+          (resource-least-is k (certificateOf (s .args .q .now) .price) (case-ranges p) (prices-in-range p) i (resource-below p (s .pre .0 .1)));
       size = omega arith;
     }
 
 pub least-terms-spec : {M : Type 1} → statement M
-least-terms-spec = tie.close (tie.spec (λ c κs. search needs) (λ c κs. search needs) (λ c κs. search needs) reserve-bounds-requires steps-least-requires reserves-least-requires (λ c κs. search needs) returns)
+least-terms-spec = tie.close (tie.spec (λ c κs. search needs) (λ c κs. search needs) reserve-bounds-requires steps-least-requires reserves-least-requires (λ c κs. search needs) returns)

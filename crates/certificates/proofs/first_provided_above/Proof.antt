@@ -12,7 +12,8 @@ use Rattle.market.specs.Certificate.{certificateOf}
 use Rattle.market.specs.Refusals.{clear, firstFailing, foundAt}
 use Rattle.market.specs.Outcome.{withinBound}
 use Rattle.records.proofs.Places.{head-in, valid-resource-in}
-use Rattle.certificates.proofs.Figures.{terms-ranged, record-is, resource-ranged}
+use Rattle.limits.proofs.Products.{terms-ranged}
+use Rattle.certificates.proofs.Figures.{record-is, resource-ranged}
 use Rattle.certificates.proofs.Above.{provided, none-yet, still-none, found-here}
 use Rattle.certificates.proofs.first_provided_above.Statement.{statement}
 use Rattle.certificates.proofs.first_provided_above.Tie as tie

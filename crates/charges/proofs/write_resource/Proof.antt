@@ -56,7 +56,7 @@ write-reserves-requires c κs =
     let s = c .before .before .before .before .before .before .before .before .before .before .before in
     let p = s .pre .0 .0 in
     let l = s .pre .0 .1 in (
-      (nets-fit p l (c .before .before .before .before .before .before .before .before .nets-at .ensures), (reserves-fit p l (c .before .before .before .before .before .before .amounts-at .ensures), bounds-fit p l (c .before .before .before .before .reserve-bounds .ensures (caseOf (s .args .b .now) .resource (s .args .i)) (resource (c .before .before .before .before .before .before .before))))),
+      (nets-fit p l (c .before .before .before .before .before .before .before .before .nets-at .ensures), (reserves-fit p l (c .before .before .before .before .before .before .amounts-at .ensures), bounds-fit p l (c .before .before .before .before .reserve-bounds .ensures (caseOf (s .args .b .now) .resource (s .args .i)) (c .before .before .before .before .before .on-line .ensures _ (resource (c .before .before .before .before .before .before .before))) (resource (c .before .before .before .before .before .before .before))))),
       rw (rest-length 10 (c .before .before .write-steps .last .1 .1 .1 .1 .0)) (omega (arith, room (c .before .before))),
     )
 
@@ -75,7 +75,7 @@ returns c =
     let o = s .args .out .now in
     let g = energyCharge (n .result) (on .result) (v .steps) (natAbs (a .result .energy .0)) in
     write-on (map g (upto 10)) (reserveCharges (n .result) (a .result) (u .result)) o (w .last .1 .1 .1 .1 .0) (x .last .1 .1 .1 .0) 10 4 10 (numbers-count g 10) refl (omega arith) (w .ensures) (x .ensures)
-    ∙ ap (λ (l : List ℤ). l ++ drop 14 o) (resource-listed (s .pre .0 .0) (s .pre .0 .1) (n .ensures) (on .ensures figures ev) ev (a .ensures) (u .ensures figures ev))
+    ∙ ap (λ (l : List ℤ). l ++ drop 14 o) (resource-listed (s .pre .0 .0) (s .pre .0 .1) (n .ensures) (on .ensures figures ev) ev (a .ensures) (u .ensures figures (on .ensures figures ev) ev))
 
 pub write-resource-spec : {M : Type 1} → statement M
 write-resource-spec =

@@ -11,30 +11,29 @@ use Rattle.limits.proofs.contingency_bound.Tie as tie
 
 returns : tie.Need-returns
 unfolding serviceBound offLineContingency
-returns c = λ k s t e. rw (
-    told-false (c .before .before .on-line .ensures s e) (c .before .if1 .taken))
+returns c = λ k s o m t e. rw (
+    told-false o (c .before .if1 .taken))
     (c .off-line-contingency-bound .ensures k s t e)
 
 returns-2 : tie.Need-returns-2
 unfolding serviceBound
-returns-2 c = λ k s t e. rw (
-  told-true (c .before .before .before .before .on-line .ensures s e) (c .before .before .before .if1 .left),
+returns-2 c = λ k s o m t e. rw (
+  told-true o (c .before .before .before .if1 .left),
   told-false (bits-are s e (λ f b. spinningFlag f || onLineSupplemental b) (c .before .carries-contingency .ensures)) (c .if2 .taken),
 )
 
 returns-3 : tie.Need-returns-3
 unfolding serviceBound
-returns-3 c = λ k s t e. rw (
-  told-true (c .before .before .before .before .before .on-line .ensures s e) (c .before .before .before .before .if1 .left),
+returns-3 c = λ k s o m t e. rw (
+  told-true o (c .before .before .before .before .if1 .left),
   told-true (bits-are s e (λ f b. spinningFlag f || onLineSupplemental b) (c .before .before .carries-contingency .ensures)) (c .before .if2 .left),
 )
-    (c .on-line-bound .ensures k contingencyReserve s t e)
+    (c .on-line-bound .ensures k contingencyReserve s m t e)
 
 pub contingency-bound-spec : {M : Type 1} → statement M
 contingency-bound-spec =
     tie.close
     (tie.spec
-    (λ c κs. search needs)
     (λ c κs. search needs)
     returns
     (λ c κs. search needs)

@@ -7,11 +7,11 @@ use Rattle.limits.proofs.energy_bound.Tie as tie
 
 returns : tie.Need-returns
 unfolding serviceBound
-returns c = λ k s e. rw (told-false (c .before .on-line .ensures s e) (c .if1 .taken))
+returns c = λ k s o e. rw (told-false o (c .if1 .taken))
 
 returns-2 : tie.Need-returns-2
 unfolding serviceBound
-returns-2 c = λ k s e. rw (told-true (c .before .before .on-line .ensures s e) (c .before .if1 .left)) (c .offered .ensures s (steps-are s e))
+returns-2 c = λ k s o e. rw (told-true o (c .before .if1 .left)) (c .offered .ensures s (steps-are s e))
 
 pub energy-bound-spec : {M : Type 1} → statement M
-energy-bound-spec = tie.close (tie.spec (λ c κs. search needs) returns (λ c κs. search needs) returns-2)
+energy-bound-spec = tie.close (tie.spec returns (λ c κs. search needs) returns-2)

@@ -8,14 +8,14 @@ use Rattle.limits.proofs.high_limit.Tie as tie
 
 returns : tie.Need-returns
 unfolding HI
-returns c = λ s e. rw (economic-max-is s e, told-false (c .before .before .on-line .ensures s e) (c .before .if1 .taken))
+returns c = λ s o e. rw (economic-max-is s e, told-false o (c .before .if1 .taken))
 
 returns-2 : tie.Need-returns-2
 unfolding HI
-returns-2 c = λ s e. rw (told-true (c .before .before .before .on-line .ensures s e) (c .before .before .if1 .left))
+returns-2 c = λ s o e. rw (told-true o (c .before .before .if1 .left))
     (c .plus .ensures .0 (s .initial) (5 * s .rampUp) (initial-is s e)
     (c .before .in-five-minutes .ensures .0 (s .rampUp) (ramp-up-is s e)))
 
 pub high-limit-spec : {M : Type 1} → statement M
 high-limit-spec =
-    tie.close (tie.spec (λ c κs. search needs) returns (λ c κs. search needs) (λ c κs. search needs) returns-2)
+    tie.close (tie.spec returns (λ c κs. search needs) (λ c κs. search needs) returns-2)

@@ -8,20 +8,20 @@ use Rattle.limits.proofs.low_limit.Tie as tie
 
 returns : tie.Need-returns
 unfolding LO
-returns c = λ s e. rw (told-false (c .before .on-line .ensures s e) (c .if1 .taken))
+returns c = λ s o e. rw (told-false o (c .if1 .taken))
 
 returns-2 : tie.Need-returns-2
 unfolding LO
-returns-2 c = λ s e. rw (
-  told-true (c .before .before .before .before .before .on-line .ensures s e) (c .before .before .before .before .if1 .left),
+returns-2 c = λ s o e. rw (
+  told-true o (c .before .before .before .before .if1 .left),
   told-false (flags-are s e selfScheduledFlag (c .before .self-scheduled .ensures)) (c .if2 .taken),
 )
     (c .before .before .before .ramp-floor .ensures s e)
 
 returns-3 : tie.Need-returns-3
 unfolding LO
-returns-3 c = λ s e. rw (
-  told-true (c .before .before .before .before .before .before .on-line .ensures s e) (c .before .before .before .before .before .if1 .left),
+returns-3 c = λ s o e. rw (
+  told-true o (c .before .before .before .before .before .if1 .left),
   told-true (flags-are s e selfScheduledFlag (c .before .before .self-scheduled .ensures)) (c .before .if2 .left),
 )
     (c .larger .ensures (rampFloor s) (s .selfSchedule) (c .before .before .before .before .ramp-floor .ensures s e) (self-schedule-is s e))
@@ -30,7 +30,6 @@ pub low-limit-spec : {M : Type 1} → statement M
 low-limit-spec =
     tie.close
     (tie.spec
-    (λ c κs. search needs)
     returns
     (λ c κs. search needs)
     (λ c κs. search needs)

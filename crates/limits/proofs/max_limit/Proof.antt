@@ -9,11 +9,11 @@ use Rattle.limits.proofs.max_limit.Tie as tie
 
 returns : tie.Need-returns
 unfolding MAX
-returns c = λ s e. rw (economic-max-is s e, told-false (c .before .before .on-line .ensures s e) (c .before .if1 .taken))
+returns c = λ s o e. rw (economic-max-is s e, told-false o (c .before .if1 .taken))
 
 returns-2 : tie.Need-returns-2
 unfolding MAX
-returns-2 c = λ s e. rw (told-true (c .before .before .before .before .before .on-line .ensures s e) (c .before .before .before .before .if1 .left))
+returns-2 c = λ s o e. rw (told-true o (c .before .before .before .before .if1 .left))
     (c .in-force .ensures
     ∙ in-force-is
     (flags-are s e emergencyMaximumFlag (c .before .before .emergency-maximum .ensures))
@@ -26,7 +26,6 @@ pub max-limit-spec : {M : Type 1} → statement M
 max-limit-spec =
     tie.close
     (tie.spec
-    (λ c κs. search needs)
     returns
     (λ c κs. search needs)
     (λ c κs. search needs)

@@ -9,12 +9,12 @@ use Rattle.limits.proofs.min_limit.Tie as tie
 
 returns : tie.Need-returns
 unfolding MIN
-returns c = λ s e. rw (told-false (c .before .on-line .ensures s e) (c .if1 .taken))
+returns c = λ s o e. rw (told-false o (c .if1 .taken))
 
 returns-2 : tie.Need-returns-2
 unfolding MIN
-returns-2 c = λ s e. rw (
-    told-true (c .before .before .before .before .before .before .on-line .ensures s e) (c .before .before .before .before .before .if1 .left))
+returns-2 c = λ s o e. rw (
+    told-true o (c .before .before .before .before .before .if1 .left))
     (c .in-force .ensures
     ∙ in-force-is
     (flags-are s e emergencyMinimumFlag (c .before .before .emergency-minimum .ensures))
@@ -27,7 +27,6 @@ pub min-limit-spec : {M : Type 1} → statement M
 min-limit-spec =
     tie.close
     (tie.spec
-    (λ c κs. search needs)
     returns
     (λ c κs. search needs)
     (λ c κs. search needs)

@@ -1,30 +1,11 @@
--- `limits::on_line` meets its contract: by the three kinds in turn. Assumes nothing.
-use mathlib.Core.Path.{_∙_, sym}
+-- `limits::on_line` meets its contract: by its state. Assumes nothing.
 use borrow.Author.Needs.{needs}
-use Rattle.limits.proofs.OnLine.{by-conventional, by-intermittent, by-external}
+use Rattle.limits.proofs.Fields.{state-is}
 use Rattle.limits.proofs.on_line.Statement.{statement}
 use Rattle.limits.proofs.on_line.Tie as tie
 
 returns : tie.Need-returns
-returns c = λ s e. by-conventional s e (sym (c .before .conventional .ensures) ∙ c .if1 .taken)
-
-returns-2 : tie.Need-returns-2
-returns-2 c = λ s e. by-intermittent s e
-    (sym (c .before .before .before .conventional .ensures) ∙ c .before .before .if1 .left)
-    (sym (c .before .intermittent .ensures) ∙ c .if2 .taken)
-
-returns-3 : tie.Need-returns-3
-returns-3 c = λ s e. c .external .ensures ∙ by-external s e
-    (sym (c .before .before .before .before .conventional .ensures) ∙ c .before .before .before .if1 .left)
-    (sym (c .before .before .intermittent .ensures) ∙ c .before .if2 .left)
+returns c = λ s e. c .state-on-line .ensures s (state-is s e)
 
 pub on-line-spec : {M : Type 1} → statement M
-on-line-spec =
-    tie.close
-    (tie.spec
-    (λ c κs. search needs)
-    returns
-    (λ c κs. search needs)
-    returns-2
-    (λ c κs. search needs)
-    returns-3)
+on-line-spec = tie.close (tie.spec (λ c κs. search needs) returns)

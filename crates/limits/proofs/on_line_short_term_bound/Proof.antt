@@ -9,28 +9,27 @@ use Rattle.limits.proofs.on_line_short_term_bound.Tie as tie
 
 returns : tie.Need-returns
 unfolding serviceBound
-returns c = λ k s t e. rw (told-false (c .before .on-line .ensures s e) (c .if1 .taken))
+returns c = λ k s o m t e. rw (told-false o (c .if1 .taken))
 
 returns-2 : tie.Need-returns-2
 unfolding serviceBound
-returns-2 c = λ k s t e. rw (
-  told-true (c .before .before .before .before .on-line .ensures s e) (c .before .before .before .if1 .left),
+returns-2 c = λ k s o m t e. rw (
+  told-true o (c .before .before .before .if1 .left),
   told-false (flags-are s e onLineShortTermFlag (c .before .on-line-short-term .ensures)) (c .if2 .taken),
 )
 
 returns-3 : tie.Need-returns-3
 unfolding serviceBound
-returns-3 c = λ k s t e. rw (
-  told-true (c .before .before .before .before .before .on-line .ensures s e) (c .before .before .before .before .if1 .left),
+returns-3 c = λ k s o m t e. rw (
+  told-true o (c .before .before .before .before .if1 .left),
   told-true (flags-are s e onLineShortTermFlag (c .before .before .on-line-short-term .ensures)) (c .before .if2 .left),
 )
-    (c .on-line-bound .ensures k shortTermReserve s t e)
+    (c .on-line-bound .ensures k shortTermReserve s m t e)
 
 pub on-line-short-term-bound-spec : {M : Type 1} → statement M
 on-line-short-term-bound-spec =
     tie.close
     (tie.spec
-    (λ c κs. search needs)
     returns
     (λ c κs. search needs)
     returns-2

@@ -7,6 +7,7 @@ use Rattle.market.specs.Certificate.{certificateOf}
 use Rattle.market.specs.InWords.{isSpinning, kwOf}
 use Rattle.market.specs.Records.{kw, recordOf, amountsOf}
 use Rattle.records.proofs.Places.{resource-is}
+use Rattle.limits.proofs.Fields.{state-is}
 use Rattle.reserves.proofs.Known.{amounts-small, spin-small, given-is}
 use borrow.Author.Needs.{needs}
 use Rattle.reserves.proofs.reserve_given.Statement.{statement}
@@ -19,7 +20,7 @@ spin-is : (c : tie.After-spinning) →
 unfolding amountsOf
 spin-is c =
     let s = c .before .before .before .before .before in
-    c .spinning .ensures (caseOf (s .args .b .now) .resource (s .args .i)) (c .before .before .resource-at .ensures ∙ ap recordOf (resource-is (s .pre .0 .prices .case-bytes) (s .args .i)))
+    c .spinning .ensures (caseOf (s .args .b .now) .resource (s .args .i)) (state-is _ (c .before .before .resource-at .ensures ∙ ap recordOf (resource-is (s .pre .0 .prices .case-bytes) (s .args .i))))
     ∙ rw (c .before .amounts-at .ensures)
 
 given-requires : tie.Need-given-requires

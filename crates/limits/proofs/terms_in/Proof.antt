@@ -1,8 +1,8 @@
--- `certificates::terms_in` meets its contract. Assumes nothing.
+-- `limits::terms_in` meets its contract. Assumes nothing.
 use borrow.Author.Needs.{needs}
-use Rattle.certificates.specs.Bounding.{termsOf}
-use Rattle.certificates.proofs.terms_in.Statement.{statement}
-use Rattle.certificates.proofs.terms_in.Tie as tie
+use Rattle.limits.specs.Together.{termsOf}
+use Rattle.limits.proofs.terms_in.Statement.{statement}
+use Rattle.limits.proofs.terms_in.Tie as tie
 
 returns : tie.Need-returns
 unfolding termsOf

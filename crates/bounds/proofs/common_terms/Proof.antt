@@ -5,10 +5,10 @@ use lib.IntN.{natAbs}
 use Rattle.market.specs.Rows.{Balance, rightSide}
 use Rattle.prices.proofs.Known.{balance-read}
 use Rattle.bounds.specs.Terms.{rowTerm}
-use Rattle.bounds.proofs.RowTerms.{balance-room, rows-are}
+use Rattle.bounds.proofs.RowTerms.{balance-room}
 use borrow.Author.Needs.{needs}
-use Rattle.bounds.proofs.row_terms.Statement.{statement}
-use Rattle.bounds.proofs.row_terms.Tie as tie
+use Rattle.bounds.proofs.common_terms.Statement.{statement}
+use Rattle.bounds.proofs.common_terms.Tie as tie
 
 worth-requires : tie.Need-worth-requires
 worth-requires c κs = rw (c .before .balance-price .ensures, c .demand .ensures) (balance-room (c .before .before .before .before .pre))
@@ -21,11 +21,11 @@ balance : (c : tie.After-worth) → let s = c .before .before .before .before .b
 unfolding rightSide
 balance c = c .worth .ensures .is ∙ rw (c .before .before .balance-price .ensures, c .before .demand .ensures)
 
-plus-requires-3 : tie.Need-plus-requires-3
-plus-requires-3 c κs = omega (arith, demand-most (c .before .before .before .before .before .before))
+plus-requires-2 : tie.Need-plus-requires-2
+plus-requires-2 c κs = omega (arith, demand-most (c .before .before .before .before))
 
 returns : tie.Need-returns
-returns c = record { is = cc (balance (c .before .before .before .before .before .before), rows-are (c .before .before .before .before .before .before .before .before .before .before .before .pre)); size = omega (arith, demand-most (c .before .before .before .before .before .before .before)) }
+returns c = record { is = cc (balance (c .before .before .before .before)); size = omega (arith, demand-most (c .before .before .before .before .before)) }
 
-pub row-terms-spec : {M : Type 1} → statement M
-row-terms-spec = tie.close (tie.spec (λ c κs. balance-read (c .before .before .pre)) (λ c κs. search needs) worth-requires (λ c κs. search needs) (λ c κs. search needs) (λ c κs. search needs) (λ c κs. search needs) (λ c κs. search needs) plus-requires-3 returns)
+pub common-terms-spec : {M : Type 1} → statement M
+common-terms-spec = tie.close (tie.spec (λ c κs. balance-read (c .before .before .pre)) (λ c κs. search needs) worth-requires (λ c κs. search needs) (λ c κs. search needs) (λ c κs. search needs) plus-requires-2 returns)

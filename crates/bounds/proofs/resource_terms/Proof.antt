@@ -1,4 +1,4 @@
-use mathlib.Core.Path.{_≡_}
+use mathlib.Core.Path.{_≡_, _∙_}
 use native.Mathlib.Omega.{arith}
 use Rattle.market.specs.CaseFile.{caseOf}
 use Rattle.market.specs.Certificate.{certificateOf}
@@ -6,11 +6,11 @@ use Rattle.market.specs.Records.{recordOf}
 use Rattle.records.proofs.Ranged.{valid-resource}
 use Rattle.prices.proofs.Known.{case-ranges, prices-in-range, resource-below}
 use Rattle.nets.proofs.Known.{resource-read, limit-prices-small}
-use Rattle.bounds.proofs.Figures.{figure-as}
+use Rattle.bounds.specs.Terms.{limitTerms}
 use Rattle.bounds.proofs.RowTerms.{limits-small, limit-value-is}
 use borrow.Author.Needs.{needs}
-use Rattle.bounds.proofs.limit_terms.Statement.{statement}
-use Rattle.bounds.proofs.limit_terms.Tie as tie
+use Rattle.bounds.proofs.resource_terms.Statement.{statement}
+use Rattle.bounds.proofs.resource_terms.Tie as tie
 
 resource : (c : tie.After-resource-at) →
     let s = c .before .before .before .before in
@@ -29,13 +29,20 @@ limit-value-requires c κs =
     rw (c .before .before .limit-prices-at .ensures, c .limits-of .ensures (caseOf (s .args .b .now) .resource i) (resource (c .before)))
     (limit-prices-small _ _ h (prices-in-range (s .pre .0)) i n, limits-small _ h i n)
 
-returns : tie.Need-returns
-returns c =
+least-terms-requires : tie.Need-least-terms-requires
+least-terms-requires c κs = let s = c .before .before .before .before .before .before in (s .pre, resource (c .before .before))
+
+-- its rows
+rows : (c : tie.After-limit-value) → let s = c .before .before .before .before .before .before in c .limit-value .result .0 ≡ limitTerms (s .args .b .now) (s .args .q .now) (s .args .i)
+rows c =
     let s = c .before .before .before .before .before .before in
     let i = s .args .i in
     let b = caseOf (s .args .b .now) in
-    figure-as (c .limit-value .ensures)
-    (rw (c .before .before .before .limit-prices-at .ensures, c .before .limits-of .ensures (b .resource i) (resource (c .before .before))) (limit-value-is b (certificateOf (s .args .q .now) .price) i)) (omega arith)
+    c .limit-value .ensures .is
+    ∙ rw (c .before .before .before .limit-prices-at .ensures, c .before .limits-of .ensures (b .resource i) (resource (c .before .before))) (limit-value-is b (certificateOf (s .args .q .now) .price) i)
 
-pub limit-terms-spec : {M : Type 1} → statement M
-limit-terms-spec = tie.close (tie.spec (λ c κs. search needs) (λ c κs. search needs) limits-of-requires limit-value-requires returns)
+returns : tie.Need-returns
+returns c = record { is = c .plus .ensures .is ∙ rw (rows (c .before .before), c .before .least-terms .ensures .is); size = omega arith }
+
+pub resource-terms-spec : {M : Type 1} → statement M
+resource-terms-spec = tie.close (tie.spec (λ c κs. search needs) (λ c κs. search needs) limits-of-requires limit-value-requires least-terms-requires (λ c κs. search needs) returns)
