@@ -1,18 +1,9 @@
 /* The library gone wrong in one way, to see that the fuzzer finds it and makes it small: linked with --wrap, these functions
  * stand between the host and the library. The environment names the fault (FAULT). The faults are misreadings of the paper
  * that show only in some cases. */
-#include "nostwier.h"
-
-#include <stdlib.h>
-#include <string.h>
+#include "../host/wrapped.h"
 
 enum { MOST = 1 << 16, HEAD = 170, RESOURCE = 154 };
-
-static int fault(const char *name)
-{
-    const char *chosen = getenv("FAULT");
-    return chosen != NULL && strcmp(chosen, name) == 0;
-}
 
 /* The case as a wrong reader would see it; the certificate and the answer are left alone. */
 static const uint8_t *misread(const uint8_t *c, size_t cn)
@@ -32,9 +23,6 @@ static const uint8_t *misread(const uint8_t *c, size_t cn)
     return seen;
 }
 
-uint32_t __real_nostwier_check_case(const uint8_t *c, size_t cn);
-uint32_t __wrap_nostwier_check_case(const uint8_t *c, size_t cn);
-
 uint32_t __wrap_nostwier_check_case(const uint8_t *c, size_t cn)
 {
     static uint8_t seen[MOST];
@@ -46,16 +34,10 @@ uint32_t __wrap_nostwier_check_case(const uint8_t *c, size_t cn)
 }
 
 #ifdef NOSTWIER_HAS_CERTIFICATE
-nostwier_result __real_nostwier_check_certificate(const uint8_t *c, size_t cn, const uint8_t *q, size_t qn);
-nostwier_result __wrap_nostwier_check_certificate(const uint8_t *c, size_t cn, const uint8_t *q, size_t qn);
-
 nostwier_result __wrap_nostwier_check_certificate(const uint8_t *c, size_t cn, const uint8_t *q, size_t qn)
 {
     return __real_nostwier_check_certificate(misread(c, cn), cn, q, qn);
 }
-
-typedef nostwier_answer list(const uint8_t *c, size_t cn, const uint8_t *q, size_t qn, int64_t *out, size_t n);
-list __real_nostwier_prices, __wrap_nostwier_prices;
 
 nostwier_answer __wrap_nostwier_prices(const uint8_t *c, size_t cn, const uint8_t *q, size_t qn, int64_t *out, size_t n)
 {
@@ -68,8 +50,6 @@ nostwier_answer __wrap_nostwier_prices(const uint8_t *c, size_t cn, const uint8_
 #endif
 
 #ifdef NOSTWIER_HAS_CHARGES
-list __real_nostwier_charges, __wrap_nostwier_charges;
-
 nostwier_answer __wrap_nostwier_charges(const uint8_t *c, size_t cn, const uint8_t *q, size_t qn, int64_t *out, size_t n)
 {
     nostwier_answer answer = __real_nostwier_charges(c, cn, q, qn, out, n);
@@ -80,13 +60,6 @@ nostwier_answer __wrap_nostwier_charges(const uint8_t *c, size_t cn, const uint8
 #endif
 
 #ifdef NOSTWIER_HAS_NUMBERS
-typedef nostwier_count reader(const uint8_t *file, size_t length, int64_t *out, size_t n);
-typedef nostwier_count writer(const int64_t *v, size_t n, uint8_t *out, size_t length);
-reader __real_nostwier_read_case, __wrap_nostwier_read_case;
-reader __real_nostwier_read_certificate, __wrap_nostwier_read_certificate;
-writer __real_nostwier_write_case, __wrap_nostwier_write_case;
-writer __real_nostwier_write_certificate, __wrap_nostwier_write_certificate;
-
 nostwier_count __wrap_nostwier_read_case(const uint8_t *file, size_t length, int64_t *out, size_t n)
 {
     nostwier_count count = __real_nostwier_read_case(file, length, out, n);

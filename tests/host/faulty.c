@@ -1,24 +1,12 @@
 /* The library with one fault, to see that the host notices it: linked with --wrap, these functions stand between the two.
  * The environment names the fault (FAULT). */
-#include "nostwier.h"
-
-#include <stdlib.h>
-#include <string.h>
-
-static int fault(const char *name)
-{
-    const char *chosen = getenv("FAULT");
-    return chosen != NULL && strcmp(chosen, name) == 0;
-}
+#include "wrapped.h"
 
 /* A read that the compiler does not leave out. */
 static void read_at(const uint8_t *byte)
 {
     (void)*(const volatile uint8_t *)byte;
 }
-
-uint32_t __real_nostwier_check_case(const uint8_t *c, size_t cn);
-uint32_t __wrap_nostwier_check_case(const uint8_t *c, size_t cn);
 
 uint32_t __wrap_nostwier_check_case(const uint8_t *c, size_t cn)
 {
@@ -39,9 +27,6 @@ uint32_t __wrap_nostwier_check_case(const uint8_t *c, size_t cn)
 }
 
 #ifdef NOSTWIER_HAS_CERTIFICATE
-nostwier_result __real_nostwier_check_certificate(const uint8_t *c, size_t cn, const uint8_t *q, size_t qn);
-nostwier_result __wrap_nostwier_check_certificate(const uint8_t *c, size_t cn, const uint8_t *q, size_t qn);
-
 nostwier_result __wrap_nostwier_check_certificate(const uint8_t *c, size_t cn, const uint8_t *q, size_t qn)
 {
     nostwier_result result = __real_nostwier_check_certificate(c, cn, q, qn);
@@ -64,9 +49,6 @@ nostwier_result __wrap_nostwier_check_certificate(const uint8_t *c, size_t cn, c
     return result;
 }
 
-typedef nostwier_answer list(const uint8_t *c, size_t cn, const uint8_t *q, size_t qn, int64_t *out, size_t n);
-list __real_nostwier_prices, __wrap_nostwier_prices;
-
 nostwier_answer __wrap_nostwier_prices(const uint8_t *c, size_t cn, const uint8_t *q, size_t qn, int64_t *out, size_t n)
 {
     nostwier_answer answer = __real_nostwier_prices(c, cn, q, qn, out, n);
@@ -84,8 +66,6 @@ nostwier_answer __wrap_nostwier_prices(const uint8_t *c, size_t cn, const uint8_
 #endif
 
 #ifdef NOSTWIER_HAS_CHARGES
-list __real_nostwier_charges, __wrap_nostwier_charges;
-
 nostwier_answer __wrap_nostwier_charges(const uint8_t *c, size_t cn, const uint8_t *q, size_t qn, int64_t *out, size_t n)
 {
     nostwier_answer answer = __real_nostwier_charges(c, cn, q, qn, out, n);
@@ -100,13 +80,6 @@ nostwier_answer __wrap_nostwier_charges(const uint8_t *c, size_t cn, const uint8
 #endif
 
 #ifdef NOSTWIER_HAS_NUMBERS
-typedef nostwier_count reader(const uint8_t *file, size_t length, int64_t *out, size_t n);
-typedef nostwier_count writer(const int64_t *v, size_t n, uint8_t *out, size_t length);
-reader __real_nostwier_read_case, __wrap_nostwier_read_case;
-reader __real_nostwier_read_certificate, __wrap_nostwier_read_certificate;
-writer __real_nostwier_write_case, __wrap_nostwier_write_case;
-writer __real_nostwier_write_certificate, __wrap_nostwier_write_certificate;
-
 nostwier_count __wrap_nostwier_read_case(const uint8_t *file, size_t length, int64_t *out, size_t n)
 {
     nostwier_count count = __real_nostwier_read_case(file, length, out, n);
