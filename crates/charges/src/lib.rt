@@ -204,7 +204,7 @@ fn write_curves(b: &[u8], q: &[u8], r: usize, z: usize, f: usize, out: &mut [i64
 
 // ---- all that is priced
 
-pub fn write_priced_charges(b: &[u8], q: &[u8], r: usize, z: usize, f: usize, out: &mut [i64])
+fn write_priced_charges(b: &[u8], q: &[u8], r: usize, z: usize, f: usize, out: &mut [i64])
     requires { ⌜ Standing (now b) (now q) r z f × (r * 14 + 16 ≤ length (now out)) ⌝ }
     ensures { λ _. ⌜ now (out .exit) ≡ map (pricedCharge (caseOf (now (b .entry))) (certificateOf (now (q .entry)) .amount) (certificateOf (now (q .entry)) .price)) (priced (caseOf (now (b .entry)))) ++ drop (r * 14 + 16) (now (out .entry)) ⌝ }
 {

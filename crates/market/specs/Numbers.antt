@@ -175,7 +175,7 @@ caseFile = fileFor caseFields
 abbrev pub certificateFile : List ℤ → List ℕ
 certificateFile = fileFor certificateFields
 
--- for a case 5, 6, 7, of the file that is to be written; then 15, with a lent buffer of n bytes
+-- 5, 6, 7, of a case's bytes
 abbrev pub fieldGrounds : List ℕ → List Finding
 fieldGrounds b =
     unless (fieldsInRange (caseOf b)) FieldRange
@@ -183,6 +183,7 @@ fieldGrounds b =
     ∷ unless (limitsOrdered (caseOf b)) LimitPair
     ∷ []
 
+-- for a case 5, 6, 7, of the file that is to be written; then 15, with a lent buffer of n bytes
 unfoldable pub writeCaseGrounds : List ℤ → ℕ → List Finding
 writeCaseGrounds vs n = listGrounds caseFields vs ++ (fieldGrounds (caseFile vs) ++ (room (length (caseFile vs)) n ∷ []))
 

@@ -48,7 +48,7 @@ fn given(a: Amounts, spin: Kw) -> CurveAmounts
 }
 
 // What resource i gives.
-pub fn reserve_given(b: &[u8], q: &[u8], r: usize, z: usize, f: usize, i: usize) -> CurveAmounts
+fn reserve_given(b: &[u8], q: &[u8], r: usize, z: usize, f: usize, i: usize) -> CurveAmounts
     requires { ⌜ Standing (now b) (now q) r z f × (i < r) ⌝ }
     ensures { λ v. ⌜ v ≡ curveAmountsOf (λ k. reserveOf (caseOf (now (b .entry))) (certificateOf (now (q .entry)) .amount) k i) ⌝ }
 {
@@ -91,7 +91,7 @@ fn given_in_zone(
 
 // ---- sums
 
-pub fn amounts_sum(a: CurveAmounts, b: CurveAmounts) -> CurveAmounts
+fn amounts_sum(a: CurveAmounts, b: CurveAmounts) -> CurveAmounts
     requires { ⌜ SumsRoom a b ⌝ }
     ensures { λ v. ⌜ v ≡ addedAmounts a b ⌝ }
 {

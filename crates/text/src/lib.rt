@@ -58,7 +58,7 @@ fn magnitude(v: i64) -> u64
     v as u64
 }
 
-pub fn write_decimal(v: i64, out: &mut [u8]) -> usize
+fn write_decimal(v: i64, out: &mut [u8]) -> usize
     requires { ⌜ mostDecimal ≤ length (now out) ⌝ }
     ensures { λ r. ⌜ Wrote (decimal v) (now (out .entry)) (now (out .exit)) r ⌝ }
 {
@@ -73,7 +73,7 @@ pub fn write_decimal(v: i64, out: &mut [u8]) -> usize
 
 // ---- lines
 
-pub fn write_word(word: &[u8], out: &mut [u8]) -> usize
+fn write_word(word: &[u8], out: &mut [u8]) -> usize
     requires { ⌜ length (now word) ≤ length (now out) ⌝ }
     ensures { λ r. ⌜ Wrote (now (word .entry)) (now (out .entry)) (now (out .exit)) r ⌝ }
 {
@@ -96,7 +96,7 @@ fn write_figure(v: i64, out: &mut [u8]) -> usize
 }
 
 // A space before each number, and a line feed.
-pub fn write_figures(vs: &[i64], out: &mut [u8]) -> usize
+fn write_figures(vs: &[i64], out: &mut [u8]) -> usize
     requires { ⌜ mostFigures (length (now vs)) ≤ length (now out) ⌝ }
     ensures { λ r. ⌜ Wrote (spaced (now (vs .entry))) (now (out .entry)) (now (out .exit)) r ⌝ }
 {
