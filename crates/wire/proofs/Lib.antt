@@ -1,3 +1,4 @@
+pub mod ByteOrder
 pub mod Quarter
 pub mod SignedBits
 pub mod Stores

@@ -1,2 +1,3 @@
+pub mod ByteOrder
 pub mod Within
 pub mod CaseBytes

@@ -5,6 +5,7 @@ ghost use Prim.Native.Nat.{ℕ, _+_, _<_, _≤_};
 ghost use Rattle.market.specs.Bytes.{u8At, u16At, u32At, signed, i16At, i32At};
 ghost use mathlib.Core.List.{[], _∷_};
 ghost use Rattle.market.specs.Numbers.{u16Bytes, u32Bytes, unsigned, i16, i32, fieldBytes};
+ghost use Rattle.wire.specs.ByteOrder.{littleEndian16, littleEndian32, swapped16, swapped32};
 ghost use Rattle.wire.specs.Within.{Within, Near, Signed, written};
 
 fn wide(x: u8) -> u32
@@ -20,24 +21,59 @@ pub fn u8_at(b: &[u8], at: usize) -> u8
     b[at]
 }
 
+// A big-endian number is read in two steps, each a function of its own: the bytes as a little-endian number, which the compiler
+// makes one load, and the swap of that number's bytes, which it makes one instruction. In one function together they stay a load
+// for each byte until after the compiler has decided what it inlines.
+
+fn little_endian_u16_at(b: &[u8], at: usize) -> u32
+    requires { ⌜ Within (now b) at 2 ⌝ }
+    ensures { λ r. ⌜ r ≡ littleEndian16 (now (b .entry)) at ⌝ }
+{
+    let x = wide(b[at]);
+    let y = wide(b[at + 1]);
+    x + y * 256
+}
+
+fn little_endian_u32_at(b: &[u8], at: usize) -> u32
+    requires { ⌜ Within (now b) at 4 ⌝ }
+    ensures { λ r. ⌜ r ≡ littleEndian32 (now (b .entry)) at ⌝ }
+{
+    let x = wide(b[at]);
+    let y = wide(b[at + 1]);
+    let z = wide(b[at + 2]);
+    let w = wide(b[at + 3]);
+    x + y * 256 + z * 65536 + w * 16777216
+}
+
+// The number whose bytes are those of `n` in the other order.
+
+fn swapped_u16(n: u32) -> u32
+    requires { ⌜ n < 65536 ⌝ }
+    ensures { λ r. ⌜ r ≡ swapped16 n ⌝ }
+{
+    n % 256 * 256 + n / 256
+}
+
+fn swapped_u32(n: u32) -> u32
+    ensures { λ r. ⌜ r ≡ swapped32 n ⌝ }
+{
+    n % 256 * 16777216 + n / 256 % 256 * 65536 + n / 65536 % 256 * 256 + n / 16777216
+}
+
 pub fn u16_at(b: &[u8], at: usize) -> u32
     requires { ⌜ Within (now b) at 2 ⌝ }
     ensures { λ r. ⌜ (r ≡ u16At (now (b .entry)) at) × (r < 65536) ⌝ }
 {
-    let x = wide(b[at]);
-    let y = wide(b[at + 1]);
-    x * 256 + y
+    let n = little_endian_u16_at(b, at);
+    swapped_u16(n)
 }
 
 pub fn u32_at(b: &[u8], at: usize) -> u32
     requires { ⌜ Within (now b) at 4 ⌝ }
     ensures { λ r. ⌜ r ≡ u32At (now (b .entry)) at ⌝ }
 {
-    let x = wide(b[at]);
-    let y = wide(b[at + 1]);
-    let z = wide(b[at + 2]);
-    let w = wide(b[at + 3]);
-    x * 16777216 + y * 65536 + z * 256 + w
+    let n = little_endian_u32_at(b, at);
+    swapped_u32(n)
 }
 
 // Two's complement of a width whose half range is `half`.
