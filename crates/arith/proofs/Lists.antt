@@ -1,5 +1,6 @@
 -- What holds of each element of a list made piece by piece; tests of all elements; lengths.
-use mathlib.Core.Path.{_≡_, refl, _∙_, ap}
+use mathlib.Core.Path.{_≡_, refl, sym, _∙_, ap}
+use mathlib.Core.Logic.{_⊎_, inl, inr}
 use mathlib.Core.Bool.{Bool, true, false, _&&_}
 use mathlib.Core.List.{List, [], _∷_, _++_, map, append-assoc, append-nil, map-append}
 use Prim.Native.Nat.{ℕ, zero, suc, _+_, _*_, _<_}
@@ -152,6 +153,11 @@ module _ (f : ℕ → Bool) where
 
   pub all-more : (i : ℕ) → all f (upto i) ≡ true → f i ≡ true → all f (upto (i + 1)) ≡ true
   all-more i h k = rw (all-upto i, h, k)
+
+  -- the answer so far, kept where the next test holds and false where it does not
+  pub all-next : (i : ℕ) {before here after : Bool} → before ≡ all f (upto i) → here ≡ f i → ((here ≡ true) × (after ≡ before)) ⊎ ((here ≡ false) × (after ≡ false)) → after ≡ all f (upto (i + 1))
+  all-next i h k (inl (t, e)) = rw (e, h, all-upto i, ← k, t) (sym (and-true (all f (upto i))))
+  all-next i h k (inr (t, e)) = rw (e, all-upto i, ← k, t) (sym (and-false (all f (upto i))))
 
   -- one that fails
   pub all-stop : (n i : ℕ) → i < n → f i ≡ false → all f (upto n) ≡ false

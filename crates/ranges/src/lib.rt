@@ -1,5 +1,5 @@
 // Ground 5 of the case check: every field of a case file within its range (01, 'The case file').
-// Each function tests some fields by their place and ends at the first that is out of range. They ask that these fields
+// Each function tests some fields by their place; all but one end at the first that is out of range. They ask that these fields
 // lie within the file; `fields_in_range` asks that the file is past refusals 1 to 4.
 use market::Counts;
 ghost use mathlib.Core.Path.{_≡_};
@@ -248,18 +248,19 @@ fn factor_in_range(b: &[u8], at: usize, i: usize) -> bool
     either_way(wire::u16_at(b, at + 4 + i * 2), 32768, 1000)
 }
 
+// Every one is looked at, also after one that is out of range: with no way out of the loop the compiler tests several at once.
 fn factors_in_range(b: &[u8], at: usize, resources: usize) -> bool
     requires { ⌜ Within (now b) (at + 4) (resources * 2) ⌝ }
     ensures { λ t. ⌜ t ≡ all (factorInRange (now (b .entry)) at) (upto resources) ⌝ }
 {
+    let mut right = true;
     let mut i: usize = 0;
     while i < resources {
-        if !factor_in_range(b, at, i) {
-            return false;
-        }
+        let here = factor_in_range(b, at, i);
+        right = here && right;
         i += 1;
     }
-    true
+    right
 }
 
 fn flowgate_in_range(b: &[u8], at: usize, resources: usize) -> bool

@@ -1,34 +1,30 @@
--- `cases::offer_follows` meets its contract. The invariant: every step passed is followed as it may be; the measure is what is left. Assumes nothing.
-use mathlib.Core.Bool.{true}
-use mathlib.Core.Path.{_≡_, sym}
+-- `cases::offer_follows` meets its contract. The invariant: what is kept says whether every step passed is followed as it may be; the measure is what is left. Assumes nothing.
+use mathlib.Core.Logic.{⊎-elim, inl, inr}
+use mathlib.Core.Path.{_≡_, sym, _∙_}
 use Prim.Native.Nat.{_≤_, _-_}
 use native.Mathlib.Omega.{arith}
 use borrow.Author.Needs.{needs}
-use Rattle.arith.proofs.Lists.{all-none, all-more, all-stop}
+use Rattle.arith.proofs.Lists.{all-none, all-next}
 use Rattle.arith.specs.Sums.{upto, all}
 use Rattle.market.specs.CaseFile.{resourceAt}
-use Rattle.ranges.proofs.Laws.{passed, failed}
 use Rattle.cases.specs.Pieces.{offerFollows}
 use Rattle.cases.proofs.offer_follows.Statement.{statement}
 use Rattle.cases.proofs.offer_follows.Tie as tie
 
 abbrev Inv-loop : tie.InvT-loop
-Inv-loop b at j₀ j = (j ≤ 9) × (all (offerFollows (resourceAt b at)) (upto j) ≡ true)
+Inv-loop b at right₀ j₀ right j = (j ≤ 9) × (right ≡ all (offerFollows (resourceAt b at)) (upto j))
 
 abbrev μ-loop : tie.MeasureT-loop
-μ-loop b at j₀ j = 9 - j
+μ-loop b at right₀ j₀ right j = 9 - j
 
 loop-holds : tie.Need-loop-holds Inv-loop μ-loop
-loop-holds c = (omega arith, all-none (offerFollows (resourceAt (c .before .args .b .now) (c .before .args .at))))
-
-returns : tie.Need-returns Inv-loop μ-loop
-returns c = sym (all-stop (offerFollows (resourceAt (c .before .before .before .before .before .args .b .now) (c .before .before .before .before .before .args .at))) _ (c .before .before .before .loop .j) (omega arith) (failed (c .before .offer-step-follows .ensures) (c .if1 .taken)))
+loop-holds c = (omega arith, sym (all-none (offerFollows (resourceAt (c .before .args .b .now) (c .before .args .at)))))
 
 loop-again : tie.Need-loop-again Inv-loop μ-loop
-loop-again c = (search needs, all-more (offerFollows (resourceAt (c .before .before .before .before .before .args .b .now) (c .before .before .before .before .before .args .at))) _ (c .before .before .before .loop .inv .1) (passed (c .before .offer-step-follows .ensures) (c .if1 .left)))
+loop-again c = let s = c .before .before .before .before .before in (search needs, all-next (offerFollows (resourceAt (s .args .b .now) (s .args .at))) _ (c .before .before .before .loop .inv .1) (c .before .offer-step-follows .ensures) (⊎-elim (λ w. inl (w .0 .taken, w .1)) (λ w. inr (w .0 .left, w .1 ∙ w .0 .left)) (c .if1 .came)))
 
-returns-2 : tie.Need-returns-2 Inv-loop μ-loop
-returns-2 c = let e : c .before .loop .j ≡ 9 = omega arith in rw (← e) (sym (c .before .loop .inv .1))
+returns : tie.Need-returns Inv-loop μ-loop
+returns c = let e : c .before .loop .j ≡ 9 = omega arith in rw (← e) (c .before .loop .inv .1)
 
 pub offer-follows-spec : {M : Type 1} → statement M
 offer-follows-spec =
@@ -38,8 +34,7 @@ offer-follows-spec =
     μ-loop
     loop-holds
     (λ c κs. search needs)
-    returns
     (λ c. search needs)
     (λ c. search needs)
     loop-again
-    returns-2)
+    returns)

@@ -1,33 +1,29 @@
--- `ranges::factors_in_range` meets its contract. The invariant: every one passed is in range; the measure is what is left. Assumes nothing.
-use mathlib.Core.Bool.{true}
-use mathlib.Core.Path.{_≡_, sym}
+-- `ranges::factors_in_range` meets its contract. The invariant: what is kept says whether every one passed is in range; the measure is what is left. Assumes nothing.
+use mathlib.Core.Path.{_≡_, sym, _∙_}
 use Prim.Native.Nat.{_≤_, _-_}
 use native.Mathlib.Omega.{arith}
 use borrow.Author.Needs.{needs}
-use Rattle.arith.proofs.Lists.{all-none, all-more, all-stop}
+use mathlib.Core.Logic.{⊎-elim, inl, inr}
+use Rattle.arith.proofs.Lists.{all-none, all-next}
 use Rattle.arith.specs.Sums.{upto, all}
 use Rattle.ranges.specs.Pieces.{factorInRange}
-use Rattle.ranges.proofs.Laws.{passed, failed}
 use Rattle.ranges.proofs.factors_in_range.Statement.{statement}
 use Rattle.ranges.proofs.factors_in_range.Tie as tie
 
 abbrev Inv-loop : tie.InvT-loop
-Inv-loop b at resources i₀ i = (i ≤ resources) × (all (factorInRange b at) (upto i) ≡ true)
+Inv-loop b at resources right₀ i₀ right i = (i ≤ resources) × (right ≡ all (factorInRange b at) (upto i))
 
 abbrev μ-loop : tie.MeasureT-loop
-μ-loop b at resources i₀ i = resources - i
+μ-loop b at resources right₀ i₀ right i = resources - i
 
 loop-holds : tie.Need-loop-holds Inv-loop μ-loop
-loop-holds c = (omega arith, all-none (factorInRange (c .before .args .b .now) (c .before .args .at)))
-
-returns : tie.Need-returns Inv-loop μ-loop
-returns c = sym (all-stop (factorInRange (c .before .before .before .before .before .args .b .now) (c .before .before .before .before .before .args .at)) _ (c .before .before .before .loop .i) (omega arith) (failed (c .before .factor-in-range .ensures) (c .if1 .taken)))
+loop-holds c = (omega arith, sym (all-none (factorInRange (c .before .args .b .now) (c .before .args .at))))
 
 loop-again : tie.Need-loop-again Inv-loop μ-loop
-loop-again c = (search needs, all-more (factorInRange (c .before .before .before .before .before .args .b .now) (c .before .before .before .before .before .args .at)) _ (c .before .before .before .loop .inv .1) (passed (c .before .factor-in-range .ensures) (c .if1 .left)))
+loop-again c = let s = c .before .before .before .before .before in (search needs, all-next (factorInRange (s .args .b .now) (s .args .at)) _ (c .before .before .before .loop .inv .1) (c .before .factor-in-range .ensures) (⊎-elim (λ w. inl (w .0 .taken, w .1)) (λ w. inr (w .0 .left, w .1 ∙ w .0 .left)) (c .if1 .came)))
 
-returns-2 : tie.Need-returns-2 Inv-loop μ-loop
-returns-2 c = let e : c .before .loop .i ≡ c .before .before .before .args .resources = omega arith in rw (← e) (sym (c .before .loop .inv .1))
+returns : tie.Need-returns Inv-loop μ-loop
+returns c = let e : c .before .loop .i ≡ c .before .before .before .args .resources = omega arith in rw (← e) (c .before .loop .inv .1)
 
 pub factors-in-range-spec : {M : Type 1} → statement M
 factors-in-range-spec =
@@ -37,8 +33,7 @@ factors-in-range-spec =
     μ-loop
     loop-holds
     (λ c κs. search needs)
-    returns
     (λ c. search needs)
     (λ c. search needs)
     loop-again
-    returns-2)
+    returns)
