@@ -38,15 +38,13 @@ module _ {a b : ℤ} {m n : ℕ} (left : UpTo a m) (width : UpTo b n) where
   pub whole-step : leZ b a ≡ true → b ≡ pos (min (natAbs b) (natAbs a))
   whole-step t = width .natural ∙ ap pos (omega (arith, more-left t))
 
-  pub left-after : leZ b a ≡ true → a -ℤ b ≡ pos (natAbs a - natAbs b)
-  left-after t = rw (left .natural, width .natural) (pos-sub (natAbs a) (natAbs b) (more-left t))
-
   -- it takes all that is left
   pub all-left : leZ b a ≡ false → a ≡ pos (min (natAbs b) (natAbs a))
   all-left t = left .natural ∙ ap pos (omega (arith, less-left t))
 
-  pub none-left : leZ b a ≡ false → 0 ≡ natAbs a - natAbs b
-  none-left t = omega (arith, less-left t)
+  -- what is left after it
+  pub left-after : {part : ℤ} → part ≡ pos (min (natAbs b) (natAbs a)) → a -ℤ part ≡ pos (natAbs a - natAbs b)
+  left-after e = rw (left .natural, e) (pos-sub (natAbs a) (min (natAbs b) (natAbs a)) (omega arith) ∙ ap pos (omega arith))
 
 -- ---- the steps in order
 pub before-steps : {a : Kw} {m : ℕ} (w : ℕ → ℕ) → UpTo (a .0) m → a ≡ power (natAbs (a .0) - widthOf w 0)

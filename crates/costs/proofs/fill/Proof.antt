@@ -1,19 +1,19 @@
 -- `costs::fill` meets its contract.
-use mathlib.Core.Path.{sym, ap, _∙_}
-use borrow.Author.Needs.{needs}
-use Rattle.market.specs.Records.{kw, power}
+use mathlib.Core.Path.{ap, _∙_}
+use native.Mathlib.Omega.{arith}
+use Rattle.market.specs.Records.{kw}
+use Rattle.market.specs.declared.Kw.{Kw}
 use Rattle.costs.specs.Steps.{fillingOf}
-use Rattle.costs.proofs.Filling.{whole-step, left-after, all-left, none-left}
+use Rattle.costs.proofs.Filling.{left-after}
 use Rattle.costs.proofs.fill.Statement.{statement}
 use Rattle.costs.proofs.fill.Tie as tie
 
+kw-difference-requires : tie.Need-kw-difference-requires
+kw-difference-requires c κs = rw (c .lesser .ensures) (omega (arith, c .before .pre .0 .at-most, c .before .pre .1 .at-most))
+
 returns : tie.Need-returns
 unfolding fillingOf
-returns c = let s = c .before .before .before in let t = sym (c .before .before .at-least .ensures) ∙ c .before .if1 .taken in λ i. record { part = kw (whole-step (s .pre .0) (s .pre .1) t i); left = (c .kw-difference .ensures ∙ ap kw (left-after (s .pre .0) (s .pre .1) t)) i }
-
-returns-2 : tie.Need-returns-2
-unfolding fillingOf
-returns-2 c = let s = c .before .before in let t = sym (c .before .at-least .ensures) ∙ c .if1 .left in λ i. record { part = kw (all-left (s .pre .0) (s .pre .1) t i); left = power (none-left (s .pre .0) (s .pre .1) t i) }
+returns c = let s = c .before .before in λ i. record { part = (c .before .lesser .ensures) i; left = (c .kw-difference .ensures ∙ ap kw (left-after (s .pre .0) (s .pre .1) (ap (λ (p : Kw). p .0) (c .before .lesser .ensures)))) i }
 
 pub fill-spec : {M : Type 1} → statement M
-fill-spec = tie.close (tie.spec (λ c κs. search needs) (λ c κs. search needs) returns returns-2)
+fill-spec = tie.close (tie.spec (λ c κs. (c .pre .1, c .pre .0)) kw-difference-requires returns)
