@@ -142,16 +142,18 @@ fn resource_in_range(b: &[u8], at: usize, zones: usize) -> bool
     offer_in_range(b, at)
 }
 
+// Their places count, not the resources: so the tests of all fields have one number to keep.
 fn resources_in_range(b: &[u8], resources: usize, zones: usize) -> bool
     requires { ⌜ Within (now b) (170 + zones * 16) (resources * 154) ⌝ }
     ensures { λ t. ⌜ t ≡ all (resourceInRangeAt (now (b .entry)) zones) (upto resources) ⌝ }
 {
-    let mut i: usize = 0;
-    while i < resources {
-        if !resource_in_range(b, 170 + zones * 16 + i * 154, zones) {
+    let end = 170 + zones * 16 + resources * 154;
+    let mut at = 170 + zones * 16;
+    while at < end {
+        if !resource_in_range(b, at, zones) {
             return false;
         }
-        i += 1;
+        at += 154;
     }
     true
 }
