@@ -1,4 +1,5 @@
 pub mod ByteOrder
+pub mod Half
 pub mod Quarter
 pub mod SignedBits
 pub mod Stores

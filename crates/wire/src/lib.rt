@@ -76,24 +76,15 @@ pub fn u32_at(b: &[u8], at: usize) -> u32
     swapped_u32(n)
 }
 
-// Two's complement of a width whose half range is `half`.
-fn twos_complement(n: u32, half: u32) -> i64
-    requires { ⌜ (n < half + half) × (half ≤ 2147483648) ⌝ }
-    ensures { λ r. ⌜ r ≡ signed half n ⌝ }
-{
-    if n < half {
-        return n as i64;
-    }
-    let range = half as i64 + half as i64;
-    n as i64 - range
-}
+// Two's complement: moved on by half the range and back again, with no test of the sign.
 
 pub fn i16_at(b: &[u8], at: usize) -> i64
     requires { ⌜ Within (now b) at 2 ⌝ }
     ensures { λ r. ⌜ r ≡ i16At (now (b .entry)) at ⌝ }
 {
     let n = u16_at(b, at);
-    twos_complement(n, 32768)
+    let moved = (n + 32768) % 65536;
+    moved as i64 - 32768
 }
 
 pub fn i32_at(b: &[u8], at: usize) -> i64
@@ -101,7 +92,8 @@ pub fn i32_at(b: &[u8], at: usize) -> i64
     ensures { λ r. ⌜ r ≡ i32At (now (b .entry)) at ⌝ }
 {
     let n = u32_at(b, at);
-    twos_complement(n, 2147483648)
+    let moved = std::num::wrapping_add_u32(n, 2147483648);
+    moved as i64 - 2147483648
 }
 
 // The same of a number nearer to 0 than a quarter of the range: moved on by a quarter and back again, with no test of its sign.
