@@ -99,10 +99,10 @@ unfoldable pub reserveOffersOf : Resource → ReserveOffers
 reserveOffersOf r =
     record { regulating = price (r .regulatingPrice); contingency = price (r .contingencyPrice); «off_line_short_term» = price (r .offLineShortTermPrice) }
 
--- a resource's record
+-- a resource's record; its energy steps are `offerStepsOf`
 unfoldable pub recordOf : Resource → D.Resource
 recordOf r =
-    record { state = stateOf r; limits = outputLimitsOf r; ramps = rampsOf r; starts = startsOf r; offers = reserveOffersOf r; steps = offerStepsOf r }
+    record { state = stateOf r; limits = outputLimitsOf r; ramps = rampsOf r; starts = startsOf r; offers = reserveOffersOf r }
 
 -- what a case says of a reserve
 unfoldable pub reserveTermsOf : Case → Reserve → ReserveTerms

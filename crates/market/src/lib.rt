@@ -205,13 +205,13 @@ pub struct ReserveOffers {
     pub off_line_short_term: Cents,
 }
 
+// All of the record but its energy steps, which only the passes over offers ask for.
 pub struct Resource {
     pub state: State,
     pub limits: OutputLimits,
     pub ramps: Ramps,
     pub starts: Starts,
     pub offers: ReserveOffers,
-    pub steps: OfferSteps,
 }
 
 // What a case says of one reserve: the multiplier and the largest share in thousandths, minutes, the market requirement.

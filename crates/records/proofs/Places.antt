@@ -11,8 +11,9 @@ use Rattle.market.specs.declared.Refusal.the-variants.{CaseSize}
 use Rattle.wire.specs.Within.{Near}
 use Rattle.market.specs.Bytes.{u8At, i16At, i32At}
 use Rattle.market.specs.CaseFile.{caseOf, caseSize, resourceAt, resourcePlace, flowgatePlace}
-use Rattle.market.specs.Records.{recordOf}
+use Rattle.market.specs.Records.{recordOf, offerStepsOf}
 use Rattle.market.specs.declared.Resource.{Resource as Record}
+use Rattle.market.specs.declared.OfferSteps.{OfferSteps}
 use Rattle.market.specs.CaseCheck.{caseSizeRight}
 use Rattle.market.specs.Outcome.{Valid, caseGrounds}
 use Rattle.market.proofs.Grounds.{unless-clear}
@@ -56,6 +57,10 @@ module _ {b : List ℕ} {r z f : ℕ} (whole : CaseBytes b r z f) where
   -- and a record read there is the record of the case's resource
   pub record-is : (i : ℕ) {x : Record} → x ≡ recordOf (resourceAt b (resourcePlace z i)) → x ≡ recordOf (caseOf b .resource i)
   record-is i e = e ∙ ap recordOf (resource-is i)
+
+  -- and steps read there are the steps of the case's resource
+  pub steps-are : (i : ℕ) {x : OfferSteps} → x ≡ offerStepsOf (resourceAt b (resourcePlace z i)) → x ≡ offerStepsOf (caseOf b .resource i)
+  steps-are i e = e ∙ ap offerStepsOf (resource-is i)
 
   pub resources-is : r ≡ caseOf b .resources
   unfolding caseOf

@@ -76,7 +76,7 @@ offers-ranged h =
       off-line-short-term = up-to (h .off-line-short-term-price);
     }
 
-steps-ranged : {zones : ℕ} {s : Resource} → ResourceRanges zones s → RangedSteps (offerStepsOf s)
+pub steps-ranged : {zones : ℕ} {s : Resource} → ResourceRanges zones s → RangedSteps (offerStepsOf s)
 unfolding offerStepOf
 steps-ranged {zones} {s} h =
     record {
@@ -93,7 +93,6 @@ resource-ranged h =
       ramps = ramps-ranged h;
       starts = starts-ranged h;
       offers = offers-ranged h;
-      steps = steps-ranged h;
     }
 
 -- ---- the rest of a case
@@ -133,6 +132,9 @@ module _ (b : List ℕ) (v : Valid b) where
   pub valid-resource : (i : ℕ) → i < caseOf b .resources → Ranged (recordOf (caseOf b .resource i))
   valid-resource i l = resource-ranged (valid-ranges b v .resource i l)
 
+  pub valid-steps : (i : ℕ) → i < caseOf b .resources → RangedSteps (offerStepsOf (caseOf b .resource i))
+  valid-steps i l = steps-ranged (valid-ranges b v .resource i l)
+
   pub valid-terms : (p : Reserve) → RangedTerms (reserveTermsOf (caseOf b) p)
   valid-terms p = terms-ranged (valid-ranges b v .reserve p)
 
@@ -145,3 +147,6 @@ module _ (b : List ℕ) (v : Valid b) where
   -- what is read at resource i's place, in a case of r resources and z zones
   pub read-ranged : {r z f : ℕ} → CaseBytes b r z f → (i : ℕ) → i < r → Ranged (recordOf (resourceAt b (resourcePlace z i)))
   read-ranged whole i l = rw (resource-is whole i) (valid-resource i (subst (λ (n : ℕ). i < n) (resources-is whole) l))
+
+  pub read-steps-ranged : {r z f : ℕ} → CaseBytes b r z f → (i : ℕ) → i < r → RangedSteps (offerStepsOf (resourceAt b (resourcePlace z i)))
+  read-steps-ranged whole i l = rw (resource-is whole i) (valid-steps i (subst (λ (n : ℕ). i < n) (resources-is whole) l))

@@ -67,7 +67,6 @@ pub record Ranged (r : Resource) : Type 0 where
   pub ramps : RangedRamps (r .ramps)
   pub starts : RangedStarts (r .starts)
   pub offers : RangedOffers (r .offers)
-  pub steps : RangedSteps (r .steps)
 
 pub record RangedTerms (t : ReserveTerms) : Type 0 where
   pub multiplier-from : 1 ≤ t .multiplier

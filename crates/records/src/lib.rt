@@ -160,7 +160,6 @@ fn resource_from(b: &[u8], at: usize) -> Resource
         ramps: ramps_at(b, at),
         starts: starts_at(b, at),
         offers: reserve_offers_at(b, at),
-        steps: offer_steps_at(b, at),
     }
 }
 
@@ -170,6 +169,14 @@ pub fn resource_at(b: &[u8], zones: usize, i: usize) -> Resource
     ensures { λ r. ⌜ r ≡ recordOf (resourceAt (now (b .entry)) (resourcePlace zones i)) ⌝ }
 {
     resource_from(b, 170 + zones * 16 + i * 154)
+}
+
+// The energy steps of resource i.
+pub fn offer_steps(b: &[u8], zones: usize, i: usize) -> OfferSteps
+    requires { ⌜ ValidResource (now b) zones i ⌝ }
+    ensures { λ r. ⌜ r ≡ offerStepsOf (resourceAt (now (b .entry)) (resourcePlace zones i)) ⌝ }
+{
+    offer_steps_at(b, 170 + zones * 16 + i * 154)
 }
 
 // The zone of resource i alone, counted from 1.

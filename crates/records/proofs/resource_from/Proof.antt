@@ -8,19 +8,17 @@ returns : tie.Need-returns
 unfolding recordOf
 returns c = λ i.
     record {
-      state = (c .before .before .before .before .before .state-at .ensures) i;
-      limits = (c .before .before .before .before .limits-at .ensures) i;
-      ramps = (c .before .before .before .ramps-at .ensures) i;
-      starts = (c .before .before .starts-at .ensures) i;
-      offers = (c .before .reserve-offers-at .ensures) i;
-      steps = (c .offer-steps-at .ensures) i;
+      state = (c .before .before .before .before .state-at .ensures) i;
+      limits = (c .before .before .before .limits-at .ensures) i;
+      ramps = (c .before .before .ramps-at .ensures) i;
+      starts = (c .before .starts-at .ensures) i;
+      offers = (c .reserve-offers-at .ensures) i;
     }
 
 pub resource-from-spec : {M : Type 1} → statement M
 resource-from-spec =
     tie.close
     (tie.spec
-    (λ c κs. search needs)
     (λ c κs. search needs)
     (λ c κs. search needs)
     (λ c κs. search needs)
