@@ -1,10 +1,10 @@
--- What a record says of the figures that it stands for: its amounts field by field, its steps, and tests of its flags and status.
+-- What a record says of the figures that it stands for: its amounts field by field, and tests of its flags and status.
 use mathlib.Core.Path.{_≡_, refl, sym, ap, _∙_}
 use mathlib.Core.Bool.{Bool, true, false, not, cond}
 use Prim.Native.Nat.{ℕ}
 use borrow.Author.Tests.{not-true, not-false}
 use Rattle.market.specs.Case.{Resource as Figures}
-use Rattle.market.specs.Records.{power, recordOf, stateOf, outputLimitsOf, rampsOf, startsOf, offerStepsOf}
+use Rattle.market.specs.Records.{power, recordOf, stateOf, outputLimitsOf, rampsOf, startsOf}
 use Rattle.market.specs.declared.Kw.{Kw}
 use Rattle.market.specs.declared.Resource.{Resource}
 
@@ -64,10 +64,6 @@ module _ {r : Resource} (s : Figures) (e : r ≡ recordOf s) where
   pub self-schedule-is : r .starts .«self_schedule» ≡ power (s .selfSchedule)
   unfolding recordOf startsOf
   self-schedule-is = ap (λ (x : Resource). x .starts .«self_schedule») e
-
-  pub steps-are : r .steps ≡ offerStepsOf s
-  unfolding recordOf
-  steps-are = ap (λ (x : Resource). x .steps) e
 
   -- a test t of the record's flags is one of the figures'
   pub flags-are : (f : ℕ → Bool) {t : Bool} → t ≡ f (r .state .flags .0) → t ≡ f (s .flags)

@@ -364,14 +364,14 @@ fn offered(steps: OfferSteps) -> Kw
 }
 
 // e
-pub fn energy_bound(on: bool, r: Resource) -> Kw
-    requires { ⌜ Ranged r ⌝ }
-    ensures { λ m. ⌜ ((c : Case) (s : Figures) → on ≡ onLine s → r ≡ recordOf s → m ≡ power (serviceBound c s energy)) ⌝ }
+pub fn energy_bound(on: bool, steps: OfferSteps) -> Kw
+    requires { ⌜ RangedSteps steps ⌝ }
+    ensures { λ m. ⌜ ((c : Case) (s : Figures) → on ≡ onLine s → steps ≡ offerStepsOf s → m ≡ power (serviceBound c s energy)) ⌝ }
 {
     if !on {
         return Kw(0);
     }
-    offered(r.steps)
+    offered(steps)
 }
 
 // g

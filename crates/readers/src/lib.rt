@@ -3,10 +3,11 @@
 // parameters, which makes the reader and calls it. Each asks that the bytes it reads are there (`records`, specs/Places.antt).
 ghost use mathlib.Core.Path.{_≡_};
 ghost use Rattle.market.specs.CaseFile.{resourceAt, resourcePlace, caseOf};
-ghost use Rattle.market.specs.Records.{kw, recordOf, zoneRequirementsOf};
+ghost use Rattle.market.specs.Records.{kw, recordOf, offerStepsOf, zoneRequirementsOf};
 ghost use Rattle.records.specs.Places.{ZoneIn, ResourceIn, ValidResource, FlowgateIn, FactorIn};
 ghost use Rattle.readers.specs.Reader.{readerOf};
 use market::Kw;
+use market::OfferSteps;
 use market::Resource;
 use market::ZoneRequirements;
 
@@ -64,6 +65,27 @@ pub fn resource_at(b: &[u8], resources: usize, zones: usize, flowgates: usize, i
     ensures { λ r. ⌜ r ≡ recordOf (resourceAt (now (b .entry)) (resourcePlace zones i)) ⌝ }
 {
     resource_of(new(b, resources, zones, flowgates), i)
+}
+
+// The energy steps of resource i.
+pub fn offer_steps_of<'a>(r: CaseReader<'a>, i: usize) -> OfferSteps
+    requires { ⌜ ValidResource (now (r .bytes)) (r .zones) i ⌝ }
+    ensures { λ q. ⌜ q ≡ offerStepsOf (resourceAt (now (r .entry .bytes)) (resourcePlace (r .entry .zones) i)) ⌝ }
+{
+    records::offer_steps(r.bytes, r.zones, i)
+}
+
+pub fn offer_steps_at(
+    b: &[u8],
+    resources: usize,
+    zones: usize,
+    flowgates: usize,
+    i: usize,
+) -> OfferSteps
+    requires { ⌜ ValidResource (now b) zones i ⌝ }
+    ensures { λ r. ⌜ r ≡ offerStepsOf (resourceAt (now (b .entry)) (resourcePlace zones i)) ⌝ }
+{
+    offer_steps_of(new(b, resources, zones, flowgates), i)
 }
 
 // The zone of resource i alone, counted from 1.
