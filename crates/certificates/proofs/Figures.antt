@@ -1,21 +1,22 @@
 -- Records of a valid case and a certificate: that their bounds can be computed, and comparisons of them by figures.
-use mathlib.Core.Path.{_≡_, refl, _∙_, ap}
+use mathlib.Core.Path.{_≡_, refl, _∙_}
 use mathlib.Core.Bool.{Bool}
 use mathlib.Core.List.{List}
 use Prim.Native.Nat.{ℕ, zero, suc, _<_}
 use native.Mathlib.Omega.{arith}
 use lib.Signed.{leZ}
 use Rattle.market.specs.declared.Kw.{Kw}
+use Rattle.market.specs.declared.OfferSteps.{OfferSteps}
 use Rattle.market.specs.declared.CurveSteps.{CurveSteps}
 use Rattle.market.specs.declared.Resource.{Resource}
 use Rattle.market.specs.Case.{Curve, operating, regulatingPlusSpinning, regulating, shortTerm, curveNumber}
 use Rattle.market.specs.CaseFile.{caseOf, resourceAt, resourcePlace}
-use Rattle.market.specs.Records.{recordOf, curveStepsOf}
+use Rattle.market.specs.Records.{recordOf, offerStepsOf, curveStepsOf}
 use Rattle.market.specs.Outcome.{Valid}
 use Rattle.market.proofs.Ranges.{valid-ranges}
-use Rattle.records.specs.Ranged.{Ranged, RangedCurve}
-use Rattle.records.proofs.Places.{resource-is, resources-is}
-use Rattle.records.proofs.Ranged.{curve-ranged, valid-resource}
+use Rattle.records.specs.Ranged.{Ranged, RangedSteps, RangedCurve}
+use Rattle.records.proofs.Places.{resources-is, record-is, steps-are}
+use Rattle.records.proofs.Ranged.{curve-ranged, valid-resource, valid-steps}
 use Rattle.certificates.specs.Filing.{Filing}
 
 -- ---- curves by their number
@@ -28,11 +29,11 @@ curve-at-ranged b v (suc (suc (suc (suc k)))) h o e = absurd (omega arith)
 
 -- ---- resources
 module _ {b q : List ℕ} {r z f : ℕ} (h : Filing b q r z f) where
-  pub record-is : {s : Resource} (i : ℕ) → s ≡ recordOf (resourceAt b (resourcePlace z i)) → s ≡ recordOf (caseOf b .resource i)
-  record-is i e = e ∙ ap recordOf (resource-is (h .case-bytes) i)
-
   pub resource-ranged : {s : Resource} (i : ℕ) → i < r → s ≡ recordOf (resourceAt b (resourcePlace z i)) → Ranged s
-  resource-ranged i l e = rw (record-is i e) (valid-resource b (h .valid) i (omega (arith, resources-is (h .case-bytes))))
+  resource-ranged i l e = rw (record-is (h .case-bytes) i e) (valid-resource b (h .valid) i (omega (arith, resources-is (h .case-bytes))))
+
+  pub steps-ranged : {o : OfferSteps} (i : ℕ) → i < r → o ≡ offerStepsOf (resourceAt b (resourcePlace z i)) → RangedSteps o
+  steps-ranged i l e = rw (steps-are (h .case-bytes) i e) (valid-steps b (h .valid) i (omega (arith, resources-is (h .case-bytes))))
 
 -- ---- a figure of one record against the same figure of another
 pub compared : {A : Type 0} (p : A → Kw) {x y x′ y′ : A} {t : Bool} → t ≡ leZ (p x .0) (p y .0) → x ≡ x′ → y ≡ y′ → t ≡ leZ (p x′ .0) (p y′ .0)

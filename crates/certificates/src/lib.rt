@@ -5,6 +5,7 @@ use limits::Terms;
 use market::Amounts;
 use market::CurveAmounts;
 use market::Kw;
+use market::OfferSteps;
 use market::Refusal;
 use market::Resource;
 ghost use mathlib.Core.Path.{_≡_};
@@ -17,12 +18,12 @@ ghost use Rattle.market.specs.Case.{Case, Curve, curves, curveNumber};
 ghost use Rattle.market.specs.CaseFile.{caseOf};
 ghost use Rattle.market.specs.UpperBounds.{Cleared, Provided, services, Schedule, upperBound};
 ghost use Rattle.market.specs.Certificate.{certificateOf};
-ghost use Rattle.market.specs.Records.{power, countsIn, recordOf, amountsOf, clearedOf};
+ghost use Rattle.market.specs.Records.{power, countsIn, recordOf, offerStepsOf, amountsOf, clearedOf};
 ghost use Rattle.market.specs.Refusals.{firstOf, firstFailing, foundAt};
 ghost use Rattle.market.specs.Outcome.{Valid, withinBound};
 ghost use Rattle.cases.specs.Stages.{stageOf};
 ghost use Rattle.records.specs.Places.{HeadIn, CurveIn};
-ghost use Rattle.records.specs.Ranged.{Ranged};
+ghost use Rattle.records.specs.Ranged.{Ranged, RangedSteps};
 ghost use Rattle.limits.specs.Together.{termsOf, TermsRanged};
 ghost use Rattle.certificates.specs.Grounds13.{priceGround, boundGround, groundsTo11, groundsTo13};
 ghost use Rattle.certificates.specs.Filing.{Filing, Filed, Advanced};
@@ -50,9 +51,9 @@ fn curve_bounds(b: &[u8]) -> CurveAmounts
 }
 
 // Of a resource's five quantities.
-fn service_bounds(r: Resource, terms: Terms) -> Amounts
-    requires { ⌜ Ranged r × TermsRanged terms ⌝ }
-    ensures { λ m. ⌜ ((c : Case) (i : ℕ) → terms ≡ termsOf c → r ≡ recordOf (c .resource i) → m ≡ amountsOf (upperBound c) i) ⌝ }
+fn service_bounds(r: Resource, steps: OfferSteps, terms: Terms) -> Amounts
+    requires { ⌜ Ranged r × (RangedSteps steps × TermsRanged terms) ⌝ }
+    ensures { λ m. ⌜ ((c : Case) (i : ℕ) → terms ≡ termsOf c → r ≡ recordOf (c .resource i) → steps ≡ offerStepsOf (c .resource i) → m ≡ amountsOf (upperBound c) i) ⌝ }
 {
     let on = limits::on_line(r);
     let reserves = limits::reserve_bounds(terms, on, r);
@@ -61,7 +62,7 @@ fn service_bounds(r: Resource, terms: Terms) -> Amounts
     let on_line_short_term = reserves.on_line_short_term;
     let off_line_short_term = reserves.off_line_short_term;
     Amounts {
-        energy: limits::energy_bound(on, r),
+        energy: limits::energy_bound(on, steps),
         regulation,
         contingency,
         on_line_short_term,
@@ -122,7 +123,11 @@ fn first_provided_above(b: &[u8], q: &[u8], r: usize, z: usize, f: usize) -> u32
     let mut place: u32 = 5;
     let mut i: usize = 0;
     while i < r {
-        let most = service_bounds(readers::resource_at(b, r, z, f, i), terms);
+        let most = service_bounds(
+            readers::resource_at(b, r, z, f, i),
+            readers::offer_steps_at(b, r, z, f, i),
+            terms,
+        );
         let given = entries::amounts_at(q, r, z, f, i);
         let found = provided_above(given, most, place);
         if found > 0 {

@@ -11,11 +11,11 @@ use Rattle.market.specs.Case.{Case, Curve, curves, operating, regulatingPlusSpi
 use Rattle.market.specs.CaseFile.{caseOf}
 use Rattle.market.specs.UpperBounds.{Schedule, Service, Provided, Cleared, energy, regulation, contingency, offLineShortTerm}
 use Rattle.market.specs.Certificate.{certificateOf}
-use Rattle.market.specs.Records.{recordOf, curveStepsOf, amountsOf}
+use Rattle.market.specs.Records.{recordOf, offerStepsOf, curveStepsOf, amountsOf}
 use Rattle.market.specs.Fits.{Fits64}
 use Rattle.market.proofs.SumsFit.{amount-of}
-use Rattle.records.specs.Ranged.{UpTo, Ranged, RangedCurve, offerStep}
-use Rattle.records.proofs.Ranged.{valid-resource, curve-ranged}
+use Rattle.records.specs.Ranged.{UpTo, Ranged, RangedSteps, RangedCurve, offerStep}
+use Rattle.records.proofs.Ranged.{valid-resource, valid-steps, curve-ranged}
 use Rattle.units.specs.Room.{SumRoom}
 use Rattle.prices.specs.Standing.{Standing}
 use Rattle.prices.proofs.Known.{case-ranges, resource-below}
@@ -38,6 +38,9 @@ module _ {b q : List ℕ} {r z f : ℕ} (s : Standing b q r z f) where
   pub resource-known : (i : ℕ) → i < r → Ranged (recordOf (c .resource i))
   resource-known i l = valid-resource b (s .prices .valid) i (resource-below (s .prices) l)
 
+  pub steps-known : (i : ℕ) → i < r → RangedSteps (offerStepsOf (c .resource i))
+  steps-known i l = valid-steps b (s .prices .valid) i (resource-below (s .prices) l)
+
   pub energy-known : (i : ℕ) → i < r → UpTo (amountsOf x i .energy .0) 2000000
   unfolding amountsOf
   energy-known i l = record { natural = refl; at-most = amount-most i l energy }
@@ -51,10 +54,10 @@ module _ {b q : List ℕ} {r z f : ℕ} (s : Standing b q r z f) where
         off-line-short-term = amount-most i l offLineShortTerm;
       }
 
-  energy-size : (i : ℕ) → i < r → natAbs (stepsWorth (offerStep (recordOf (c .resource i) .steps)) (natAbs (amountsOf x i .energy .0)) 10) ≤ 8000000000000
-  energy-size i l = steps-size (offer-ranges (resource-known i l .steps)) (omega arith) (omega arith) (natAbs (amountsOf x i .energy .0)) 10 (omega arith)
+  energy-size : (i : ℕ) → i < r → natAbs (stepsWorth (offerStep (offerStepsOf (c .resource i))) (natAbs (amountsOf x i .energy .0)) 10) ≤ 8000000000000
+  energy-size i l = steps-size (offer-ranges (steps-known i l)) (omega arith) (omega arith) (natAbs (amountsOf x i .energy .0)) 10 (omega arith)
 
-  pub resource-room : (i : ℕ) → i < r → SumRoom (stepsWorth (offerStep (recordOf (c .resource i) .steps)) (natAbs (amountsOf x i .energy .0)) 10) (reservesWorth (recordOf (c .resource i) .offers) (amountsOf x i))
+  pub resource-room : (i : ℕ) → i < r → SumRoom (stepsWorth (offerStep (offerStepsOf (c .resource i))) (natAbs (amountsOf x i .energy .0)) 10) (reservesWorth (recordOf (c .resource i) .offers) (amountsOf x i))
   resource-room i l = omega (arith, energy-size i l, reserves-size (resource-known i l .offers) (amounts-known i l))
 
   resource-size : (i : ℕ) → i < r → natAbs (resourceWorth c x i) ≤ 10400000000000
@@ -62,7 +65,7 @@ module _ {b q : List ℕ} {r z f : ℕ} (s : Standing b q r z f) where
       rw (← (resource-worth-is c x i))
       (omega (
         arith,
-        abs-add (stepsWorth (offerStep (recordOf (c .resource i) .steps)) (natAbs (amountsOf x i .energy .0)) 10) (reservesWorth (recordOf (c .resource i) .offers) (amountsOf x i)),
+        abs-add (stepsWorth (offerStep (offerStepsOf (c .resource i))) (natAbs (amountsOf x i .energy .0)) 10) (reservesWorth (recordOf (c .resource i) .offers) (amountsOf x i)),
         energy-size i l,
         reserves-size (resource-known i l .offers) (amounts-known i l),
       ))

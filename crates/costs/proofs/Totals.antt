@@ -68,7 +68,7 @@ module _ (c : Case) (x : Schedule) where
   reserves-worth-is i = ap pos (omega arith)
 
   -- a resource's record and what it is given
-  pub resource-worth-is : (i : ℕ) → stepsWorth (offerStep (recordOf (c .resource i) .steps)) (natAbs (amountsOf x i .energy .0)) 10 +ℤ reservesWorth (recordOf (c .resource i) .offers) (amountsOf x i) ≡ resourceWorth c x i
+  pub resource-worth-is : (i : ℕ) → stepsWorth (offerStep (offerStepsOf (c .resource i))) (natAbs (amountsOf x i .energy .0)) 10 +ℤ reservesWorth (recordOf (c .resource i) .offers) (amountsOf x i) ≡ resourceWorth c x i
   unfolding recordOf amountsOf
   resource-worth-is i =
       sym (append-sums (worthOf c x) (map (EnergyStep i) (upto energySteps)) (map (Whole i) reserveServices) (sym (energy-worth-is i)) (sym (reserves-worth-is i)))

@@ -141,7 +141,7 @@ fn resource_worth(b: &[u8], q: &[u8], r: usize, z: usize, f: usize, i: usize) ->
 {
     let resource = readers::resource_at(b, r, z, f, i);
     let amounts = entries::amounts_at(q, r, z, f, i);
-    let energy = energy_worth(resource.steps, amounts.energy);
+    let energy = energy_worth(readers::offer_steps_at(b, r, z, f, i), amounts.energy);
     let reserves = reserves_worth(resource.offers, amounts);
     sum(energy, reserves)
 }

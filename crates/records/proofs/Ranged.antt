@@ -76,7 +76,7 @@ offers-ranged h =
       off-line-short-term = up-to (h .off-line-short-term-price);
     }
 
-pub steps-ranged : {zones : ℕ} {s : Resource} → ResourceRanges zones s → RangedSteps (offerStepsOf s)
+steps-ranged : {zones : ℕ} {s : Resource} → ResourceRanges zones s → RangedSteps (offerStepsOf s)
 unfolding offerStepOf
 steps-ranged {zones} {s} h =
     record {
@@ -147,6 +147,3 @@ module _ (b : List ℕ) (v : Valid b) where
   -- what is read at resource i's place, in a case of r resources and z zones
   pub read-ranged : {r z f : ℕ} → CaseBytes b r z f → (i : ℕ) → i < r → Ranged (recordOf (resourceAt b (resourcePlace z i)))
   read-ranged whole i l = rw (resource-is whole i) (valid-resource i (subst (λ (n : ℕ). i < n) (resources-is whole) l))
-
-  pub read-steps-ranged : {r z f : ℕ} → CaseBytes b r z f → (i : ℕ) → i < r → RangedSteps (offerStepsOf (resourceAt b (resourcePlace z i)))
-  read-steps-ranged whole i l = rw (resource-is whole i) (valid-steps i (subst (λ (n : ℕ). i < n) (resources-is whole) l))

@@ -11,9 +11,9 @@ use Rattle.market.specs.UpperBounds.{upperBound}
 use Rattle.market.specs.Certificate.{certificateOf}
 use Rattle.market.specs.Refusals.{clear, firstFailing, foundAt}
 use Rattle.market.specs.Outcome.{withinBound}
-use Rattle.records.proofs.Places.{head-in, valid-resource-in}
+use Rattle.records.proofs.Places.{head-in, valid-resource-in, record-is, steps-are}
 use Rattle.limits.proofs.Products.{terms-ranged}
-use Rattle.certificates.proofs.Figures.{record-is, resource-ranged}
+use Rattle.certificates.proofs.Figures.{resource-ranged, steps-ranged}
 use Rattle.certificates.proofs.Above.{provided, none-yet, still-none, found-here}
 use Rattle.certificates.proofs.first_provided_above.Statement.{statement}
 use Rattle.certificates.proofs.first_provided_above.Tie as tie
@@ -33,43 +33,52 @@ loop-holds c = (omega arith, refl, none-yet (withinBound (caseOf (c .before .bef
 resource-at-requires : tie.Need-resource-at-requires Inv-loop μ-loop
 resource-at-requires c κs = let s = c .before .before .before .before .before in valid-resource-in (s .pre .case-bytes) (s .pre .valid) (c .before .loop .i) (omega arith)
 
+offer-steps-at-requires : tie.Need-offer-steps-at-requires Inv-loop μ-loop
+offer-steps-at-requires c κs = let s = c .before .before .before .before .before .before in valid-resource-in (s .pre .case-bytes) (s .pre .valid) (c .before .before .loop .i) (omega arith)
+
 service-bounds-requires : tie.Need-service-bounds-requires Inv-loop μ-loop
-service-bounds-requires c κs = (resource-ranged (c .before .before .before .before .before .before .pre) (c .before .before .loop .i) (omega arith) (c .resource-at .ensures), terms-ranged _ (c .before .before .before .before .before .before .pre .valid) (c .before .before .before .terms-in .ensures))
+service-bounds-requires c κs =
+    let s = c .before .before .before .before .before .before .before in
+    let i = c .before .before .before .loop .i in (
+      resource-ranged (s .pre) i (omega arith) (c .before .resource-at .ensures),
+      (steps-ranged (s .pre) i (omega arith) (c .offer-steps-at .ensures), terms-ranged _ (s .pre .valid) (c .before .before .before .before .terms-in .ensures)),
+    )
 
 amounts-at-requires : tie.Need-amounts-at-requires Inv-loop μ-loop
-amounts-at-requires c κs = (c .before .before .before .before .before .before .before .pre .certificate-bytes, omega arith)
+amounts-at-requires c κs = (c .before .before .before .before .before .before .before .before .pre .certificate-bytes, omega arith)
 
 provided-above-requires : tie.Need-provided-above-requires Inv-loop μ-loop
-provided-above-requires c κs = (omega arith, omega (arith, c .before .before .before .before .before .before .before .before .pre .case-bytes .most-resources))
+provided-above-requires c κs = (omega arith, omega (arith, c .before .before .before .before .before .before .before .before .before .pre .case-bytes .most-resources))
 
 -- what is found among a resource's five
 found : (c : tie.After-provided-above Inv-loop μ-loop) →
-    let s = c .before .before .before .before .before .before .before .before .before in
-    let l = c .before .before .before .before .before .loop in
+    let s = c .before .before .before .before .before .before .before .before .before .before in
+    let l = c .before .before .before .before .before .before .loop in
     foundAt AboveBound (c .provided-above .result) ≡ firstFailing (withinBound (caseOf (s .args .b .now)) (certificateOf (s .args .q .now))) AboveBound (l .place) (provided (l .i))
 found c =
-    let s = c .before .before .before .before .before .before .before .before .before in
-    let l = c .before .before .before .before .before .loop in
-    let resource = record-is (s .pre) (l .i) (c .before .before .before .resource-at .ensures) in
-    let most = c .before .before .service-bounds .ensures (caseOf (s .args .b .now)) (l .i) (c .before .before .before .before .before .before .terms-in .ensures) resource in
+    let s = c .before .before .before .before .before .before .before .before .before .before in
+    let l = c .before .before .before .before .before .before .loop in
+    let resource = record-is (s .pre .case-bytes) (l .i) (c .before .before .before .before .resource-at .ensures) in
+    let steps = steps-are (s .pre .case-bytes) (l .i) (c .before .before .before .offer-steps-at .ensures) in
+    let most = c .before .before .service-bounds .ensures (caseOf (s .args .b .now)) (l .i) (c .before .before .before .before .before .before .before .terms-in .ensures) resource steps in
     c .provided-above .ensures (certificateOf (s .args .q .now) .amount) (upperBound (caseOf (s .args .b .now))) (l .i) (c .before .amounts-at .ensures) most
 
 returns : tie.Need-returns Inv-loop μ-loop
 returns c =
-    let s = c .before .before .before .before .before .before .before .before .before .before in
-    let l = c .before .before .before .before .before .before .loop in
+    let s = c .before .before .before .before .before .before .before .before .before .before .before in
+    let l = c .before .before .before .before .before .before .before .loop in
     found-here (withinBound (caseOf (s .args .b .now)) (certificateOf (s .args .q .now))) _ (l .i) (l .place) (c .before .provided-above .result) (omega arith) (l .inv .1) (l .inv .2) (found (c .before)) (omega arith)
 
 add-place : tie.Need-add-place Inv-loop μ-loop
-add-place c = omega (arith, c .before .before .before .before .before .before .before .before .before .before .pre .case-bytes .most-resources)
+add-place c = omega (arith, c .before .before .before .before .before .before .before .before .before .before .before .pre .case-bytes .most-resources)
 
 add-i : tie.Need-add-i Inv-loop μ-loop
-add-i c = omega (arith, c .before .before .before .before .before .before .before .before .before .before .pre .case-bytes .most-resources)
+add-i c = omega (arith, c .before .before .before .before .before .before .before .before .before .before .before .pre .case-bytes .most-resources)
 
 loop-again : tie.Need-loop-again Inv-loop μ-loop
 loop-again c =
-    let s = c .before .before .before .before .before .before .before .before .before .before in
-    let l = c .before .before .before .before .before .before .loop in
+    let s = c .before .before .before .before .before .before .before .before .before .before .before in
+    let l = c .before .before .before .before .before .before .before .loop in
     (omega arith, omega arith, still-none (withinBound (caseOf (s .args .b .now)) (certificateOf (s .args .q .now))) (l .i) (l .place) (c .before .provided-above .result) (l .inv .1) (l .inv .2) (found (c .before)) (omega arith))
 
 returns-2 : tie.Need-returns-2 Inv-loop μ-loop
@@ -84,6 +93,7 @@ first-provided-above-spec =
     terms-in-requires
     loop-holds
     resource-at-requires
+    offer-steps-at-requires
     service-bounds-requires
     amounts-at-requires
     provided-above-requires

@@ -10,12 +10,12 @@ use Rattle.certificates.proofs.service_bounds.Tie as tie
 returns : tie.Need-returns
 unfolding amountsOf upperBound reserveBoundsOf
 returns c =
-    λ k n t e.
+    λ k n t e d.
     let s = k .resource n in
     let on = c .before .before .before .before .before .before .on-line .ensures s e in
     let reserves = c .before .before .before .before .before .reserve-bounds .ensures k s t on e in
     λ i. record {
-      energy = (c .energy-bound .ensures k s on e) i;
+      energy = (c .energy-bound .ensures k s on d) i;
       regulation = reserves i .regulation;
       contingency = reserves i .contingency;
       «on_line_short_term» = reserves i .«on_line_short_term»;
