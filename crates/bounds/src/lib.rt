@@ -245,7 +245,7 @@ fn least_terms(
     let prices = nets::nets_for(b, q, r, z, f, i, resource);
     let on = limits::on_line(resource);
     let uppers = reserve_bounds(b, on, resource);
-    let steps = steps_least(prices, on, resource.steps);
+    let steps = steps_least(prices, on, readers::offer_steps_at(b, r, z, f, i));
     let reserves = reserves_least(prices, uppers);
     plus(steps, reserves)
 }

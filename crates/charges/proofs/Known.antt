@@ -17,11 +17,11 @@ use Rattle.market.specs.Rows.{Market, rows}
 use Rattle.market.specs.Certificate.{Prices, certificateOf}
 use Rattle.market.specs.Cost.{curvePriced, priced}
 use Rattle.market.specs.Charges.{rowCharge, pricedCharge, charges, chargeCount}
-use Rattle.market.specs.Records.{power, millicents, recordOf, amountsOf, curveStepsOf}
+use Rattle.market.specs.Records.{power, millicents, offerStepsOf, amountsOf, curveStepsOf}
 use Rattle.market.specs.declared.Amounts.{Amounts}
 use Rattle.market.specs.declared.Kw.{Kw}
 use Rattle.market.specs.declared.Millicents.{Millicents}
-use Rattle.market.specs.declared.Resource.{Resource as Record}
+use Rattle.market.specs.declared.OfferSteps.{OfferSteps}
 use Rattle.market.proofs.Lengths.{row-count}
 use Rattle.market.proofs.SumsFit.{amount-of}
 use Rattle.records.proofs.Places.{resources-is, zones-is, flowgates-is}
@@ -35,7 +35,7 @@ use Rattle.limits.specs.declared.ReserveBounds.{ReserveBounds}
 use Rattle.bounds.specs.Sizes.{SmallBounds}
 use Rattle.limits.specs.Together.{reserveBoundsOf}
 use Rattle.bounds.proofs.PricedTerms.{bounds-small}
-use Rattle.costs.proofs.Known.{resource-known, energy-known, curve-known, cleared-known}
+use Rattle.costs.proofs.Known.{steps-known, energy-known, curve-known, cleared-known}
 use Rattle.charges.specs.declared.ClearedCurve.{ClearedCurve}
 use Rattle.charges.specs.Sizes.{StepsRoom, SmallReserves, ClearedRoom}
 use Rattle.charges.specs.Terms.{chargeIn, resourceCharges, energyCharge, reserveCharges, clearedCurve, curveCharges, curveFrom}
@@ -59,8 +59,8 @@ module _ {b q : List ℕ} {r z f : ℕ} (s : Standing b q r z f) where
     pub nets-fit : {n : Nets} → n ≡ netsOf c y i → SmallNets n
     nets-fit e = rw e (nets-small c y (case-ranges (s .prices)) (prices-in-range (s .prices)) i (resource-below (s .prices) l))
 
-    pub steps-fit : {v : Record} {a : Amounts} → v ≡ recordOf (c .resource i) → a ≡ amountsOf x i → StepsRoom (v .steps) (a .energy)
-    steps-fit e d = rw (e, d) (record { steps = resource-known s i l .steps; provided = energy-known s i l })
+    pub steps-fit : {o : OfferSteps} {a : Amounts} → o ≡ offerStepsOf (c .resource i) → a ≡ amountsOf x i → StepsRoom o (a .energy)
+    steps-fit e d = rw (e, d) (record { steps = steps-known s i l; provided = energy-known s i l })
 
     pub reserves-fit : {a : Amounts} → a ≡ amountsOf x i → SmallReserves a
     unfolding amountsOf
@@ -77,11 +77,11 @@ module _ {b q : List ℕ} {r z f : ℕ} (s : Standing b q r z f) where
     bounds-fit e = rw e (bounds-small c (case-ranges (s .prices)) i (resource-below (s .prices) l))
 
     -- ten steps, then reserves
-    pub resource-listed : {n : Nets} {on : Bool} {v : Record} {a : Amounts} {u : ReserveBounds} →
-        n ≡ netsOf c y i → on ≡ onLine (c .resource i) → v ≡ recordOf (c .resource i) → a ≡ amountsOf x i → u ≡ reserveBoundsOf c (c .resource i) →
-        map (energyCharge n on (v .steps) (natAbs (a .energy .0))) (upto energySteps) ++ reserveCharges n a u ≡ resourceCharges b q i
-    unfolding recordOf amountsOf
-    resource-listed en eo ev ea eu = rw (en, eo, ev, ea, eu) (resource-is c x y (case-ranges (s .prices)) (prices-in-range (s .prices)) i (resource-below (s .prices) l))
+    pub resource-listed : {n : Nets} {on : Bool} {o : OfferSteps} {a : Amounts} {u : ReserveBounds} →
+        n ≡ netsOf c y i → on ≡ onLine (c .resource i) → o ≡ offerStepsOf (c .resource i) → a ≡ amountsOf x i → u ≡ reserveBoundsOf c (c .resource i) →
+        map (energyCharge n on o (natAbs (a .energy .0))) (upto energySteps) ++ reserveCharges n a u ≡ resourceCharges b q i
+    unfolding amountsOf
+    resource-listed en eo es ea eu = rw (en, eo, es, ea, eu) (resource-is c x y (case-ranges (s .prices)) (prices-in-range (s .prices)) i (resource-below (s .prices) l))
 
   -- ---- a curve
   pub curve-fits : (k : Curve) {v : ClearedCurve} → v ≡ curveFrom b q k → ClearedRoom v

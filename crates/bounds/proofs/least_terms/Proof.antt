@@ -3,8 +3,8 @@ use mathlib.Core.Path.{_≡_, _∙_}
 use native.Mathlib.Omega.{arith}
 use Rattle.market.specs.CaseFile.{caseOf}
 use Rattle.market.specs.Certificate.{certificateOf}
-use Rattle.market.specs.Records.{recordOf}
-use Rattle.records.proofs.Places.{head-in}
+use Rattle.market.specs.Records.{offerStepsOf}
+use Rattle.records.proofs.Places.{head-in, valid-resource-in, steps-are}
 use Rattle.records.proofs.Ranged.{valid-resource}
 use Rattle.prices.proofs.Known.{case-ranges, prices-in-range, resource-below}
 use Rattle.nets.proofs.Known.{nets-small}
@@ -19,39 +19,49 @@ reserve-bounds-requires c κs =
     let p = s .pre .0 .0 in
     ((head-in (p .case-bytes), p .valid), rw (s .pre .1) (valid-resource (s .args .b .now) (p .valid) (s .args .i) (resource-below p (s .pre .0 .1))))
 
-steps-least-requires : tie.Need-steps-least-requires
-unfolding recordOf
-steps-least-requires c κs =
+offer-steps-at-requires : tie.Need-offer-steps-at-requires
+offer-steps-at-requires c κs =
     let s = c .before .before .before .before .before in
     let p = s .pre .0 .0 in
-    let n = resource-below p (s .pre .0 .1) in
-    rw (c .before .before .nets-for .ensures, s .pre .1) (nets-small _ _ (case-ranges p) (prices-in-range p) (s .args .i) n, steps-small _ (case-ranges p) (s .args .i) n)
+    valid-resource-in (p .case-bytes) (p .valid) (s .args .i) (s .pre .0 .1)
 
-reserves-least-requires : tie.Need-reserves-least-requires
-reserves-least-requires c κs =
+-- the steps that are read are the case's
+offered : (c : tie.After-offer-steps-at) →
+    let s = c .before .before .before .before .before .before in
+    c .offer-steps-at .result ≡ offerStepsOf (caseOf (s .args .b .now) .resource (s .args .i))
+offered c = let s = c .before .before .before .before .before .before in steps-are (s .pre .0 .0 .case-bytes) (s .args .i) (c .offer-steps-at .ensures)
+
+steps-least-requires : tie.Need-steps-least-requires
+steps-least-requires c κs =
     let s = c .before .before .before .before .before .before in
     let p = s .pre .0 .0 in
     let n = resource-below p (s .pre .0 .1) in
+    rw (c .before .before .before .nets-for .ensures, offered c) (nets-small _ _ (case-ranges p) (prices-in-range p) (s .args .i) n, steps-small _ (case-ranges p) (s .args .i) n)
+
+reserves-least-requires : tie.Need-reserves-least-requires
+reserves-least-requires c κs =
+    let s = c .before .before .before .before .before .before .before in
+    let p = s .pre .0 .0 in
+    let n = resource-below p (s .pre .0 .1) in
     let figures = caseOf (s .args .b .now) .resource (s .args .i) in
-    rw (c .before .before .before .nets-for .ensures, c .before .reserve-bounds .ensures figures (c .before .before .on-line .ensures figures (s .pre .1)) (s .pre .1))
+    rw (c .before .before .before .before .nets-for .ensures, c .before .before .reserve-bounds .ensures figures (c .before .before .before .on-line .ensures figures (s .pre .1)) (s .pre .1))
     (nets-small _ _ (case-ranges p) (prices-in-range p) (s .args .i) n, bounds-small _ (case-ranges p) (s .args .i) n)
 
 returns : tie.Need-returns
-unfolding recordOf
 returns c =
-    let s = c .before .before .before .before .before .before .before .before in
+    let s = c .before .before .before .before .before .before .before .before .before in
     let i = s .args .i in
     let p = s .pre .0 .0 in
     let k = caseOf (s .args .b .now) in
     let r = s .pre .1 in
-    let on = c .before .before .before .before .on-line .ensures (k .resource i) r in
+    let on = c .before .before .before .before .before .on-line .ensures (k .resource i) r in
     record {
       is =
           c .plus .ensures .is
-          ∙ rw (c .before .before .steps-least .ensures .is, c .before .reserves-least .ensures .is, c .before .before .before .before .before .nets-for .ensures, on, r, c .before .before .before .reserve-bounds .ensures (k .resource i) on r)
+          ∙ rw (c .before .before .steps-least .ensures .is, c .before .reserves-least .ensures .is, c .before .before .before .before .before .before .nets-for .ensures, on, offered (c .before .before .before), c .before .before .before .before .reserve-bounds .ensures (k .resource i) on r)
           (resource-least-is k (certificateOf (s .args .q .now) .price) (case-ranges p) (prices-in-range p) i (resource-below p (s .pre .0 .1)));
       size = omega arith;
     }
 
 pub least-terms-spec : {M : Type 1} → statement M
-least-terms-spec = tie.close (tie.spec (λ c κs. search needs) (λ c κs. search needs) reserve-bounds-requires steps-least-requires reserves-least-requires (λ c κs. search needs) returns)
+least-terms-spec = tie.close (tie.spec (λ c κs. search needs) (λ c κs. search needs) reserve-bounds-requires offer-steps-at-requires steps-least-requires reserves-least-requires (λ c κs. search needs) returns)

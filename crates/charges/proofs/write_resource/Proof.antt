@@ -7,9 +7,9 @@ use lib.ListN.{length, drop}
 use lib.IntN.{ℤ, natAbs}
 use borrow.Author.Needs.{needs}
 use Rattle.arith.specs.Sums.{upto}
-use Rattle.market.specs.Records.{recordOf}
+use Rattle.market.specs.Records.{recordOf, offerStepsOf}
 use Rattle.market.specs.CaseFile.{caseOf}
-use Rattle.records.proofs.Places.{head-in, record-is}
+use Rattle.records.proofs.Places.{head-in, valid-resource-in, record-is, steps-are}
 use Rattle.costs.proofs.Known.{resource-known}
 use Rattle.arith.proofs.Buffers.{rest-length, write-on}
 use Rattle.charges.specs.Terms.{energyCharge, reserveCharges}
@@ -24,9 +24,15 @@ resource : (c : tie.After-resource-at) →
     c .resource-at .result ≡ recordOf (caseOf (s .args .b .now) .resource (s .args .i))
 resource c = let s = c .before .before .before .before in record-is (s .pre .0 .0 .prices .case-bytes) (s .args .i) (c .resource-at .ensures)
 
+-- so are the steps
+steps : (c : tie.After-offer-steps-at) →
+    let s = c .before .before .before .before .before .before .before .before in
+    c .offer-steps-at .result ≡ offerStepsOf (caseOf (s .args .b .now) .resource (s .args .i))
+steps c = let s = c .before .before .before .before .before .before .before .before in steps-are (s .pre .0 .0 .prices .case-bytes) (s .args .i) (c .offer-steps-at .ensures)
+
 -- behind the steps there is room for the reserves
 room : (c : tie.After-write-steps) → 14 ≤ length (c .write-steps .last .1 .1 .1 .1 .0)
-room c = let s = c .before .before .before .before .before .before .before .before .before in omega (arith, c .write-steps .kept .1 .1 .1 .1 .0, s .pre .1)
+room c = let s = c .before .before .before .before .before .before .before .before .before .before in omega (arith, c .write-steps .kept .1 .1 .1 .1 .0, s .pre .1)
 
 behind : (c : tie.After-write-steps) → 10 ≤ length (c .write-steps .last .1 .1 .1 .1 .0)
 behind c = omega (arith, room c)
@@ -37,13 +43,19 @@ reserve-bounds-requires c κs =
     let p = s .pre .0 .0 .prices in
     ((head-in (p .case-bytes), p .valid), rw (resource (c .before .before)) (resource-known (s .pre .0 .0) (s .args .i) (s .pre .0 .1)))
 
+offer-steps-at-requires : tie.Need-offer-steps-at-requires
+offer-steps-at-requires c κs =
+    let s = c .before .before .before .before .before .before .before in
+    let p = s .pre .0 .0 .prices in
+    valid-resource-in (p .case-bytes) (p .valid) (s .args .i) (s .pre .0 .1)
+
 write-steps-requires : tie.Need-write-steps-requires
 write-steps-requires c κs =
-    let s = c .before .before .before .before .before .before .before .before in
+    let s = c .before .before .before .before .before .before .before .before .before in
     let p = s .pre .0 .0 in
     let l = s .pre .0 .1 in
     let room : 10 ≤ length (s .args .out .now) = omega arith in
-    ((nets-fit p l (c .before .before .before .before .before .nets-at .ensures), steps-fit p l (resource (c .before .before .before .before)) (c .before .before .before .amounts-at .ensures)), room)
+    ((nets-fit p l (c .before .before .before .before .before .before .nets-at .ensures), steps-fit p l (steps c) (c .before .before .before .before .amounts-at .ensures)), room)
 
 sub-write-reserves : tie.Need-sub-write-reserves
 sub-write-reserves c = behind (c .before)
@@ -53,29 +65,30 @@ part-write-reserves-start c = behind (c .before)
 
 write-reserves-requires : tie.Need-write-reserves-requires
 write-reserves-requires c κs =
-    let s = c .before .before .before .before .before .before .before .before .before .before .before in
+    let s = c .before .before .before .before .before .before .before .before .before .before .before .before in
     let p = s .pre .0 .0 in
     let l = s .pre .0 .1 in (
-      (nets-fit p l (c .before .before .before .before .before .before .before .before .nets-at .ensures), (reserves-fit p l (c .before .before .before .before .before .before .amounts-at .ensures), bounds-fit p l (c .before .before .before .before .reserve-bounds .ensures (caseOf (s .args .b .now) .resource (s .args .i)) (c .before .before .before .before .before .on-line .ensures _ (resource (c .before .before .before .before .before .before .before))) (resource (c .before .before .before .before .before .before .before))))),
+      (nets-fit p l (c .before .before .before .before .before .before .before .before .before .nets-at .ensures), (reserves-fit p l (c .before .before .before .before .before .before .before .amounts-at .ensures), bounds-fit p l (c .before .before .before .before .before .reserve-bounds .ensures (caseOf (s .args .b .now) .resource (s .args .i)) (c .before .before .before .before .before .before .on-line .ensures _ (resource (c .before .before .before .before .before .before .before .before))) (resource (c .before .before .before .before .before .before .before .before))))),
       rw (rest-length 10 (c .before .before .write-steps .last .1 .1 .1 .1 .0)) (omega (arith, room (c .before .before))),
     )
 
 returns : tie.Need-returns
 returns c =
-    let s = c .before .before .before .before .before .before .before .before .before .before .before .before .before in
-    let n = c .before .before .before .before .before .before .before .before .before .before .nets-at in
-    let a = c .before .before .before .before .before .before .before .before .amounts-at in
-    let on = c .before .before .before .before .before .before .before .on-line in
-    let u = c .before .before .before .before .before .before .reserve-bounds in
-    let v = c .before .before .before .before .before .before .before .before .before .resource-at .result in
-    let ev = resource (c .before .before .before .before .before .before .before .before .before) in
+    let s = c .before .before .before .before .before .before .before .before .before .before .before .before .before .before in
+    let n = c .before .before .before .before .before .before .before .before .before .before .before .nets-at in
+    let a = c .before .before .before .before .before .before .before .before .before .amounts-at in
+    let on = c .before .before .before .before .before .before .before .before .on-line in
+    let u = c .before .before .before .before .before .before .before .reserve-bounds in
+    let ev = resource (c .before .before .before .before .before .before .before .before .before .before) in
+    let p = c .before .before .before .before .before .offer-steps-at .result in
+    let ep = steps (c .before .before .before .before .before) in
     let w = c .before .before .before .before .write-steps in
     let x = c .before .write-reserves in
     let figures = caseOf (s .args .b .now) .resource (s .args .i) in
     let o = s .args .out .now in
-    let g = energyCharge (n .result) (on .result) (v .steps) (natAbs (a .result .energy .0)) in
+    let g = energyCharge (n .result) (on .result) p (natAbs (a .result .energy .0)) in
     write-on (map g (upto 10)) (reserveCharges (n .result) (a .result) (u .result)) o (w .last .1 .1 .1 .1 .0) (x .last .1 .1 .1 .0) 10 4 10 (numbers-count g 10) refl (omega arith) (w .ensures) (x .ensures)
-    ∙ ap (λ (l : List ℤ). l ++ drop 14 o) (resource-listed (s .pre .0 .0) (s .pre .0 .1) (n .ensures) (on .ensures figures ev) ev (a .ensures) (u .ensures figures (on .ensures figures ev) ev))
+    ∙ ap (λ (l : List ℤ). l ++ drop 14 o) (resource-listed (s .pre .0 .0) (s .pre .0 .1) (n .ensures) (on .ensures figures ev) ep (a .ensures) (u .ensures figures (on .ensures figures ev) ev))
 
 pub write-resource-spec : {M : Type 1} → statement M
 write-resource-spec =
@@ -86,6 +99,7 @@ write-resource-spec =
     (λ c κs. search needs)
     (λ c κs. search needs)
     reserve-bounds-requires
+    offer-steps-at-requires
     write-steps-requires
     sub-write-reserves
     part-write-reserves-start
