@@ -106,13 +106,8 @@ fn write_resource(b: &[u8], q: &[u8], r: usize, z: usize, f: usize, i: usize, ou
     let amounts = entries::amounts_at(q, r, z, f, i);
     let on = limits::on_line(resource);
     let uppers = bounds::reserve_bounds(b, on, resource);
-    write_steps(
-        prices,
-        on,
-        readers::offer_steps_at(b, r, z, f, i),
-        amounts.energy,
-        out,
-    );
+    let steps = readers::offer_steps_at(b, r, z, f, i);
+    write_steps(prices, on, steps, amounts.energy, out);
     write_reserves(prices, amounts, uppers, &mut out[10..]);
 }
 

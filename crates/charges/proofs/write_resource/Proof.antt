@@ -55,7 +55,7 @@ write-steps-requires c κs =
     let p = s .pre .0 .0 in
     let l = s .pre .0 .1 in
     let room : 10 ≤ length (s .args .out .now) = omega arith in
-    ((nets-fit p l (c .before .before .before .before .before .before .nets-at .ensures), steps-fit p l (steps c) (c .before .before .before .before .amounts-at .ensures)), room)
+    ((nets-fit p l (c .before .before .before .before .before .before .nets-at .ensures), steps-fit p l (steps (c .before)) (c .before .before .before .before .amounts-at .ensures)), room)
 
 sub-write-reserves : tie.Need-sub-write-reserves
 sub-write-reserves c = behind (c .before)
@@ -80,8 +80,8 @@ returns c =
     let on = c .before .before .before .before .before .before .before .before .on-line in
     let u = c .before .before .before .before .before .before .before .reserve-bounds in
     let ev = resource (c .before .before .before .before .before .before .before .before .before .before) in
-    let p = c .before .before .before .before .before .offer-steps-at .result in
-    let ep = steps (c .before .before .before .before .before) in
+    let p = c .before .before .before .before .before .before .offer-steps-at .result in
+    let ep = steps (c .before .before .before .before .before .before) in
     let w = c .before .before .before .before .write-steps in
     let x = c .before .write-reserves in
     let figures = caseOf (s .args .b .now) .resource (s .args .i) in
