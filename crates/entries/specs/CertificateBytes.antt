@@ -9,9 +9,7 @@ use Rattle.market.specs.declared.LimitPrices.{LimitPrices}
 use Rattle.market.specs.declared.ReservePrices.{ReservePrices}
 use Rattle.market.specs.Bytes.{u8At, u32At}
 use Rattle.market.specs.Records.{power, millicents}
-use Rattle.market.specs.Rows.{Balance}
-use Rattle.market.specs.Certificate.{certificateOf, certificateSize}
-use Rattle.wire.specs.Within.{Near}
+use Rattle.market.specs.Certificate.{certificateSize}
 
 -- r, z and f are the file's counts, within their ranges, and its size is what they need
 pub record CertificateBytes (q : List ℕ) (r z f : ℕ) : Type 0 where
@@ -22,10 +20,6 @@ pub record CertificateBytes (q : List ℕ) (r z f : ℕ) : Type 0 where
   pub zones-most : z ≤ 8
   pub flowgates-most : f ≤ 16
   pub sized : length q ≡ certificateSize r z f
-
--- the price of row 1 is near 0, in fewer bits than its width: past 12 it is
-abbrev pub BalanceNear : List ℕ → Type 0
-BalanceNear q = Near 1073741824 (certificateOf q .price Balance)
 
 -- four prices, one behind the other
 unfoldable pub reservePricesAt : List ℕ → ℕ → ReservePrices

@@ -7,7 +7,7 @@ ghost use Rattle.market.specs.Rows.{Balance, Market, Zone, Flowgate};
 ghost use Rattle.market.specs.Certificate.{certificateOf, amountsPlace};
 ghost use Rattle.market.specs.Records.{power, price, cents, millicents, amountsOf, limitPricesOf, clearedOf, reservePricesOf};
 ghost use Rattle.wire.specs.Within.{Within};
-ghost use Rattle.entries.specs.CertificateBytes.{CertificateBytes, BalanceNear, reservePricesAt};
+ghost use Rattle.entries.specs.CertificateBytes.{CertificateBytes, reservePricesAt};
 use market::Amounts;
 use market::Cents;
 use market::CurveAmounts;
@@ -103,10 +103,10 @@ pub fn zone_prices_at(q: &[u8], r: usize, z: usize, f: usize, zone: usize) -> Re
 
 // The price of row 1, past refusal 12.
 pub fn balance_price(q: &[u8], r: usize, z: usize, f: usize) -> Millicents
-    requires { ⌜ CertificateBytes (now q) r z f × BalanceNear (now q) ⌝ }
+    requires { ⌜ CertificateBytes (now q) r z f ⌝ }
     ensures { λ p. ⌜ p ≡ millicents (certificateOf (now (q .entry)) .price Balance) ⌝ }
 {
-    Millicents(wire::i32_small_at(q, 24))
+    Millicents(wire::i32_at(q, 24))
 }
 
 // The price of a flowgate's row, in cents, flowgates counted from 0.

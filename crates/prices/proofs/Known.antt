@@ -16,7 +16,6 @@ use Rattle.market.proofs.Ranges.{CaseRanges, PriceRanges, valid-ranges, price-r
 use Rattle.records.proofs.Places.{resources-is, zones-is, flowgates-is}
 use Rattle.market.specs.Prices.{LMP, regulatingPrice, spinningPrice, supplementalPrice, shortTermPrice}
 use Rattle.market.specs.Records.{reservePricesOf}
-use Rattle.entries.specs.CertificateBytes.{CertificateBytes, BalanceNear}
 use Rattle.units.specs.Room.{SumRoom, ProductRoom}
 use Rattle.prices.specs.Standing.{PricesStand}
 use Rattle.prices.specs.ZonePrices.{SmallPrices, addedPrices, zonePricesOf}
@@ -39,10 +38,6 @@ module _ {b q : List ℕ} {r z f : ℕ} (s : PricesStand b q r z f) where
 
   pub balance-size : natAbs (certificateOf q .price Balance) ≤ 400000000
   balance-size = prices-in-range .price Balance tt .le
-
-  -- what the reader of row 1's price asks
-  pub balance-read : CertificateBytes q r z f × BalanceNear q
-  balance-read = (s .certificate-bytes, omega (arith, balance-size))
 
   pub flowgate-size : (g : ℕ) → g < f → natAbs (certificateOf q .price (Flowgate g)) ≤ 400000
   flowgate-size g h = prices-in-range .price (Flowgate g) (flowgate-below h) .le

@@ -4,7 +4,7 @@
 ghost use mathlib.Core.Path.{_≡_};
 ghost use Rattle.market.specs.CaseFile.{resourceAt, resourcePlace, caseOf};
 ghost use Rattle.market.specs.Records.{kw, recordOf, offerStepsOf, zoneRequirementsOf};
-ghost use Rattle.records.specs.Places.{ZoneIn, ResourceIn, ValidResource, FlowgateIn, FactorIn};
+ghost use Rattle.records.specs.Places.{ZoneIn, ResourceIn, FlowgateIn, FactorIn};
 ghost use Rattle.readers.specs.Reader.{readerOf};
 use market::Kw;
 use market::OfferSteps;
@@ -54,14 +54,14 @@ pub fn zone_at(
 // ---- resources, counted from 0
 
 pub fn resource_of<'a>(r: CaseReader<'a>, i: usize) -> Resource
-    requires { ⌜ ValidResource (now (r .bytes)) (r .zones) i ⌝ }
+    requires { ⌜ ResourceIn (now (r .bytes)) (r .zones) i ⌝ }
     ensures { λ q. ⌜ q ≡ recordOf (resourceAt (now (r .entry .bytes)) (resourcePlace (r .entry .zones) i)) ⌝ }
 {
     records::resource_at(r.bytes, r.zones, i)
 }
 
 pub fn resource_at(b: &[u8], resources: usize, zones: usize, flowgates: usize, i: usize) -> Resource
-    requires { ⌜ ValidResource (now b) zones i ⌝ }
+    requires { ⌜ ResourceIn (now b) zones i ⌝ }
     ensures { λ r. ⌜ r ≡ recordOf (resourceAt (now (b .entry)) (resourcePlace zones i)) ⌝ }
 {
     resource_of(new(b, resources, zones, flowgates), i)
@@ -69,7 +69,7 @@ pub fn resource_at(b: &[u8], resources: usize, zones: usize, flowgates: usize, i
 
 // The energy steps of resource i.
 pub fn offer_steps_of<'a>(r: CaseReader<'a>, i: usize) -> OfferSteps
-    requires { ⌜ ValidResource (now (r .bytes)) (r .zones) i ⌝ }
+    requires { ⌜ ResourceIn (now (r .bytes)) (r .zones) i ⌝ }
     ensures { λ q. ⌜ q ≡ offerStepsOf (resourceAt (now (r .entry .bytes)) (resourcePlace (r .entry .zones) i)) ⌝ }
 {
     records::offer_steps(r.bytes, r.zones, i)
@@ -82,7 +82,7 @@ pub fn offer_steps_at(
     flowgates: usize,
     i: usize,
 ) -> OfferSteps
-    requires { ⌜ ValidResource (now b) zones i ⌝ }
+    requires { ⌜ ResourceIn (now b) zones i ⌝ }
     ensures { λ r. ⌜ r ≡ offerStepsOf (resourceAt (now (b .entry)) (resourcePlace zones i)) ⌝ }
 {
     offer_steps_of(new(b, resources, zones, flowgates), i)

@@ -1,5 +1,4 @@
--- In the bytes of a case every record is there; a valid case's bytes are such, its records are those at their places, and
--- its signed words are near 0.
+-- In the bytes of a case every record is there; a valid case's bytes are such, and its records are those at their places.
 use mathlib.Core.Path.{_≡_, refl, ap, _∙_}
 use mathlib.Core.List.{List}
 use Prim.Native.Nat.{ℕ, _+_, _*_, _<_}
@@ -8,9 +7,8 @@ use native.Mathlib.Nat.{mul-le-mul-right}
 use lib.ListN.{length}
 use lib.Dec.{eqb→eq}
 use Rattle.market.specs.declared.Refusal.the-variants.{CaseSize}
-use Rattle.wire.specs.Within.{Near}
-use Rattle.market.specs.Bytes.{u8At, i16At, i32At}
-use Rattle.market.specs.CaseFile.{caseOf, caseSize, resourceAt, resourcePlace, flowgatePlace}
+use Rattle.market.specs.Bytes.{u8At}
+use Rattle.market.specs.CaseFile.{caseOf, caseSize, resourceAt, resourcePlace}
 use Rattle.market.specs.Records.{recordOf, offerStepsOf}
 use Rattle.market.specs.declared.Resource.{Resource as Record}
 use Rattle.market.specs.declared.OfferSteps.{OfferSteps}
@@ -18,7 +16,7 @@ use Rattle.market.specs.CaseCheck.{caseSizeRight}
 use Rattle.market.specs.Outcome.{Valid, caseGrounds}
 use Rattle.market.proofs.Grounds.{unless-clear}
 use Rattle.market.proofs.Ranges.{valid-ranges}
-use Rattle.records.specs.Places.{CaseBytes, HeadIn, CurveIn, ZoneIn, ResourceIn, ValidResource, NearResource, FlowgateIn, FactorIn}
+use Rattle.records.specs.Places.{CaseBytes, HeadIn, CurveIn, ZoneIn, ResourceIn, FlowgateIn, FactorIn}
 
 module _ {b : List ℕ} {r z f : ℕ} (whole : CaseBytes b r z f) where
   pub head-in : HeadIn b
@@ -33,21 +31,11 @@ module _ {b : List ℕ} {r z f : ℕ} (whole : CaseBytes b r z f) where
   pub resource-in : (i : ℕ) → i < r → ResourceIn b z i
   resource-in i h = omega arith
 
-  pub valid-resource-in : Valid b → (i : ℕ) → i < r → ValidResource b z i
-  valid-resource-in v i h = record { within = resource-in i h; valid = v; zones = whole .zones; listed = omega (arith, whole .resources) }
+  pub flowgate-in : (g : ℕ) → g < f → FlowgateIn b r z g
+  flowgate-in g h = record { resources = whole .resources; zones = whole .zones; within = omega (arith, mul-le-mul-right (4 + r * 2) h) }
 
-  pub flowgate-in : Valid b → (g : ℕ) → g < f → FlowgateIn b r z g
-  flowgate-in v g h =
-      record {
-        resources = whole .resources;
-        zones = whole .zones;
-        within = omega (arith, mul-le-mul-right (4 + r * 2) h);
-        valid = v;
-        listed = omega (arith, whole .flowgates);
-      }
-
-  pub factor-in : Valid b → (g i : ℕ) → g < f → i < r → FactorIn b r z g i
-  factor-in v g i h k = record { flowgate = flowgate-in v g h; counted = k }
+  pub factor-in : (g i : ℕ) → g < f → i < r → FactorIn b r z g i
+  factor-in g i h k = record { flowgate = flowgate-in g h; counted = k }
 
   -- what stands at a resource's place is the case's resource
   pub resource-is : (i : ℕ) → resourceAt b (resourcePlace z i) ≡ caseOf b .resource i
@@ -92,25 +80,3 @@ valid-bytes b v =
 -- and with counts that are those
 pub counted-bytes : (b : List ℕ) → Valid b → {r z f : ℕ} → r ≡ u8At b 5 → z ≡ u8At b 6 → f ≡ u8At b 7 → CaseBytes b r z f
 counted-bytes b v hr hz hf = rw (hr, hz, hf) (valid-bytes b v)
-
--- ---- signed words of a valid case
-pub near-resource : {b : List ℕ} {z i : ℕ} → ValidResource b z i → NearResource b (resourcePlace z i)
-unfolding caseOf resourceAt
-near-resource {b} {z} {i} h =
-    let ranges = valid-ranges b (h .valid) .resource i (h .listed) in
-    record {
-      within = h .within;
-      output = rw (h .zones) (omega (arith, ranges .output-size .le));
-      step-price = λ j k. rw (h .zones) (omega (arith, ranges .step-price j k .le));
-    }
-
-pub near-limit : {b : List ℕ} {r z f : ℕ} → FlowgateIn b r z f → Near 1073741824 (i32At b (flowgatePlace r z f))
-unfolding caseOf
-near-limit {b} {r} {z} {f} h = rw (h .resources, h .zones) (omega (arith, valid-ranges b (h .valid) .flowgate-limit f (h .listed) .le))
-
-pub near-factor : {b : List ℕ} {r z f i : ℕ} → FactorIn b r z f i → Near 16384 (i16At b (flowgatePlace r z f + 4 + i * 2))
-unfolding caseOf
-near-factor {b} {r} {z} {f} {i} h =
-    let gate = h .flowgate in
-    let counted : i < u8At b 5 = omega (arith, h .counted, gate .resources) in
-    rw (gate .resources, gate .zones) (omega (arith, valid-ranges b (gate .valid) .shift-factor f i (gate .listed) counted .le))

@@ -1,15 +1,13 @@
 -- That the bytes of a record are there, place by place, and that the bytes are those of a whole case (01, 'The case file').
--- What a function of this crate asks is a line on lengths, and where it reads a signed word, that the case is valid: the word is
--- then near 0, in fewer bits than its width. `CaseBytes` and `Valid` give each of them (proofs/Places.antt).
+-- What a function of this crate asks is a line on lengths; `CaseBytes` gives each of them (proofs/Places.antt).
 use mathlib.Core.Path.{_≡_}
 use mathlib.Core.List.{List}
 use Prim.Native.Nat.{ℕ, _+_, _*_, _<_, _≤_}
 use lib.ListN.{length}
-use Rattle.wire.specs.Within.{Within, Near}
+use Rattle.wire.specs.Within.{Within}
 pub use Rattle.wire.specs.CaseBytes.{CaseBytes}
-use Rattle.market.specs.Bytes.{u8At, u16At, u32At, i32At}
+use Rattle.market.specs.Bytes.{u8At, u16At, u32At}
 use Rattle.market.specs.CaseFile.{resourcePlace, flowgatePlace, caseSize}
-use Rattle.market.specs.Outcome.{Valid}
 use Rattle.market.specs.Records.{power, price}
 use Rattle.market.specs.declared.Step.{Step}
 use Rattle.market.specs.declared.ReserveTerms.{ReserveTerms}
@@ -29,26 +27,11 @@ ZoneIn b z = Within b (170 + z * 16) 16
 abbrev pub ResourceIn : List ℕ → ℕ → ℕ → Type 0
 ResourceIn b z i = Within b (resourcePlace z i) 154
 
--- and the case is valid
-pub record ValidResource (b : List ℕ) (z i : ℕ) : Type 0 where
-  pub within : ResourceIn b z i
-  pub valid : Valid b
-  pub zones : z ≡ u8At b 6
-  pub listed : i < u8At b 5
-
--- a resource at the place p, its output and the prices of its steps near 0
-pub record NearResource (b : List ℕ) (p : ℕ) : Type 0 where
-  pub within : Within b p 154
-  pub output : Near 1073741824 (i32At b (p + 6))
-  pub step-price : (j : ℕ) → j < 10 → Near 1073741824 (i32At b (p + 78 + j * 8))
-
--- flowgate f of a valid case that counts r resources and z zones
+-- flowgate f of a case that counts r resources and z zones
 pub record FlowgateIn (b : List ℕ) (r z f : ℕ) : Type 0 where
   pub resources : r ≡ u8At b 5
   pub zones : z ≡ u8At b 6
   pub within : Within b (flowgatePlace r z f) (4 + r * 2)
-  pub valid : Valid b
-  pub listed : f < u8At b 7
 
 -- its shift factor of resource i
 pub record FactorIn (b : List ℕ) (r z f i : ℕ) : Type 0 where

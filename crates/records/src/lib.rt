@@ -1,14 +1,13 @@
 // Records out of a case's bytes, by value: resources, zones' requirements, reserve terms, demand curves, demand, flowgates.
-// Each function asks that the bytes it reads are there, and those of signed words that the case is valid (specs/Places.antt), and
-// equates its result with the definitions.
+// Each function asks that the bytes it reads are there (specs/Places.antt), and equates its result with the definitions.
 ghost use mathlib.Core.Path.{_≡_};
 ghost use Prim.Native.Nat.{_+_, _*_, _<_, _≤_};
-ghost use Rattle.wire.specs.Within.{Within, Near};
+ghost use Rattle.wire.specs.Within.{Within};
 ghost use Rattle.market.specs.Bytes.{u32At, i32At};
 ghost use Rattle.market.specs.Case.{Curve, curveNumber, contingencyReserve, regulatingReserve, shortTermReserve};
 ghost use Rattle.market.specs.CaseFile.{resourceAt, resourcePlace, caseOf};
 ghost use Rattle.market.specs.Records.{kw, cents, power, price, offerStepOf, offerStepsOf, stateOf, outputLimitsOf, rampsOf, startsOf, reserveOffersOf, recordOf, reserveTermsOf, curveStepsOf, zoneRequirementsOf};
-ghost use Rattle.records.specs.Places.{HeadIn, CurveIn, ZoneIn, ResourceIn, ValidResource, NearResource, FlowgateIn, FactorIn, termsAt, curveStepAt};
+ghost use Rattle.records.specs.Places.{HeadIn, CurveIn, ZoneIn, ResourceIn, FlowgateIn, FactorIn, termsAt, curveStepAt};
 use market::Cents;
 use market::CurveSteps;
 use market::Flags;
@@ -35,10 +34,10 @@ fn kw_at(b: &[u8], at: usize) -> Kw
 }
 
 fn signed_kw_at(b: &[u8], at: usize) -> Kw
-    requires { ⌜ Within (now b) at 4 × Near 1073741824 (i32At (now b) at) ⌝ }
+    requires { ⌜ Within (now b) at 4 ⌝ }
     ensures { λ r. ⌜ r ≡ kw (i32At (now (b .entry)) at) ⌝ }
 {
-    Kw(wire::i32_small_at(b, at))
+    Kw(wire::i32_at(b, at))
 }
 
 fn cents_at(b: &[u8], at: usize) -> Cents
@@ -49,16 +48,16 @@ fn cents_at(b: &[u8], at: usize) -> Cents
 }
 
 fn signed_cents_at(b: &[u8], at: usize) -> Cents
-    requires { ⌜ Within (now b) at 4 × Near 1073741824 (i32At (now b) at) ⌝ }
+    requires { ⌜ Within (now b) at 4 ⌝ }
     ensures { λ r. ⌜ r ≡ cents (i32At (now (b .entry)) at) ⌝ }
 {
-    Cents(wire::i32_small_at(b, at))
+    Cents(wire::i32_at(b, at))
 }
 
 // ---- a resource, whose 154 bytes begin at `at`
 
 fn state_at(b: &[u8], at: usize) -> State
-    requires { ⌜ NearResource (now b) at ⌝ }
+    requires { ⌜ Within (now b) at 154 ⌝ }
     ensures { λ r. ⌜ r ≡ stateOf (resourceAt (now (b .entry)) at) ⌝ }
 {
     State {
@@ -121,7 +120,7 @@ fn reserve_offers_at(b: &[u8], at: usize) -> ReserveOffers
 }
 
 fn offer_step_at(b: &[u8], at: usize, j: usize) -> Step
-    requires { ⌜ NearResource (now b) at × (j < 10) ⌝ }
+    requires { ⌜ Within (now b) at 154 × (j < 10) ⌝ }
     ensures { λ r. ⌜ r ≡ offerStepOf (resourceAt (now (b .entry)) at) j ⌝ }
 {
     Step {
@@ -131,7 +130,7 @@ fn offer_step_at(b: &[u8], at: usize, j: usize) -> Step
 }
 
 fn offer_steps_at(b: &[u8], at: usize) -> OfferSteps
-    requires { ⌜ NearResource (now b) at ⌝ }
+    requires { ⌜ Within (now b) at 154 ⌝ }
     ensures { λ r. ⌜ r ≡ offerStepsOf (resourceAt (now (b .entry)) at) ⌝ }
 {
     OfferSteps {
@@ -151,7 +150,7 @@ fn offer_steps_at(b: &[u8], at: usize) -> OfferSteps
 }
 
 fn resource_from(b: &[u8], at: usize) -> Resource
-    requires { ⌜ NearResource (now b) at ⌝ }
+    requires { ⌜ Within (now b) at 154 ⌝ }
     ensures { λ r. ⌜ r ≡ recordOf (resourceAt (now (b .entry)) at) ⌝ }
 {
     Resource {
@@ -165,7 +164,7 @@ fn resource_from(b: &[u8], at: usize) -> Resource
 
 // Resource i of a case of so many zones.
 pub fn resource_at(b: &[u8], zones: usize, i: usize) -> Resource
-    requires { ⌜ ValidResource (now b) zones i ⌝ }
+    requires { ⌜ ResourceIn (now b) zones i ⌝ }
     ensures { λ r. ⌜ r ≡ recordOf (resourceAt (now (b .entry)) (resourcePlace zones i)) ⌝ }
 {
     resource_from(b, 170 + zones * 16 + i * 154)
@@ -173,7 +172,7 @@ pub fn resource_at(b: &[u8], zones: usize, i: usize) -> Resource
 
 // The energy steps of resource i.
 pub fn offer_steps(b: &[u8], zones: usize, i: usize) -> OfferSteps
-    requires { ⌜ ValidResource (now b) zones i ⌝ }
+    requires { ⌜ ResourceIn (now b) zones i ⌝ }
     ensures { λ r. ⌜ r ≡ offerStepsOf (resourceAt (now (b .entry)) (resourcePlace zones i)) ⌝ }
 {
     offer_steps_at(b, 170 + zones * 16 + i * 154)
@@ -297,7 +296,7 @@ pub fn shift_factor_at(b: &[u8], resources: usize, zones: usize, f: usize, i: us
     requires { ⌜ FactorIn (now b) resources zones f i ⌝ }
     ensures { λ r. ⌜ r ≡ caseOf (now (b .entry)) .shiftFactor f i ⌝ }
 {
-    wire::i16_small_at(
+    wire::i16_at(
         b,
         170 + zones * 16 + resources * 154 + f * (4 + resources * 2) + 4 + i * 2,
     )

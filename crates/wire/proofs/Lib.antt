@@ -1,5 +1,4 @@
 pub mod ByteOrder
 pub mod Half
-pub mod Quarter
 pub mod SignedBits
 pub mod Stores

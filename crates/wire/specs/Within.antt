@@ -1,8 +1,8 @@
 -- Places inside a slice, what is written at one, and numbers of a signed width.
 use mathlib.Core.List.{List, _++_}
-use Prim.Native.Nat.{ℕ, _+_, _<_, _≤_}
+use Prim.Native.Nat.{ℕ, _+_, _≤_}
 use lib.ListN.{length, take, drop}
-use lib.IntN.{ℤ, pos, negℤ, natAbs}
+use lib.IntN.{ℤ, pos, negℤ}
 use lib.Signed.{_≤ℤ_, _<ℤ_}
 
 -- n elements stand at the place p
@@ -18,7 +18,3 @@ module _ {A : Type 0} where
 pub record Signed (half : ℕ) (v : ℤ) : Type 0 where
   pub low : negℤ (pos half) ≤ℤ v
   pub high : v <ℤ pos half
-
--- v lies nearer to 0 than a quarter of its width's range
-abbrev pub Near : ℕ → ℤ → Type 0
-Near quarter v = natAbs v < quarter

@@ -6,7 +6,7 @@ ghost use Rattle.market.specs.Bytes.{u8At, u16At, u32At, signed, i16At, i32At};
 ghost use mathlib.Core.List.{[], _∷_};
 ghost use Rattle.market.specs.Numbers.{u16Bytes, u32Bytes, unsigned, i16, i32, fieldBytes};
 ghost use Rattle.wire.specs.ByteOrder.{littleEndian16, littleEndian32, swapped16, swapped32};
-ghost use Rattle.wire.specs.Within.{Within, Near, Signed, written};
+ghost use Rattle.wire.specs.Within.{Within, Signed, written};
 
 fn wide(x: u8) -> u32
     ensures { λ r. ⌜ (r ≡ x) × (r < 256) ⌝ }
@@ -94,26 +94,6 @@ pub fn i32_at(b: &[u8], at: usize) -> i64
     let n = u32_at(b, at);
     let moved = std::num::wrapping_add_u32(n, 2147483648);
     moved as i64 - 2147483648
-}
-
-// The same of a number nearer to 0 than a quarter of the range: moved on by a quarter and back again, with no test of its sign.
-
-pub fn i16_small_at(b: &[u8], at: usize) -> i64
-    requires { ⌜ Within (now b) at 2 × Near 16384 (i16At (now b) at) ⌝ }
-    ensures { λ r. ⌜ r ≡ i16At (now (b .entry)) at ⌝ }
-{
-    let n = u16_at(b, at);
-    let moved = (n + 16384) % 65536;
-    moved as i64 - 16384
-}
-
-pub fn i32_small_at(b: &[u8], at: usize) -> i64
-    requires { ⌜ Within (now b) at 4 × Near 1073741824 (i32At (now b) at) ⌝ }
-    ensures { λ r. ⌜ r ≡ i32At (now (b .entry)) at ⌝ }
-{
-    let n = u32_at(b, at);
-    let moved = std::num::wrapping_add_u32(n, 1073741824);
-    moved as i64 - 1073741824
 }
 
 // ---- into a slice: the other bytes stay as they are

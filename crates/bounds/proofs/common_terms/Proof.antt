@@ -3,7 +3,6 @@ use Prim.Native.Nat.{_≤_}
 use native.Mathlib.Omega.{arith}
 use lib.IntN.{natAbs}
 use Rattle.market.specs.Rows.{Balance, rightSide}
-use Rattle.prices.proofs.Known.{balance-read}
 use Rattle.bounds.specs.Terms.{rowTerm}
 use Rattle.bounds.proofs.RowTerms.{balance-room}
 use borrow.Author.Needs.{needs}
@@ -28,4 +27,4 @@ returns : tie.Need-returns
 returns c = record { is = cc (balance (c .before .before .before .before)); size = omega (arith, demand-most (c .before .before .before .before .before)) }
 
 pub common-terms-spec : {M : Type 1} → statement M
-common-terms-spec = tie.close (tie.spec (λ c κs. balance-read (c .before .before .pre)) (λ c κs. search needs) worth-requires (λ c κs. search needs) (λ c κs. search needs) (λ c κs. search needs) plus-requires-2 returns)
+common-terms-spec = tie.close (tie.spec (λ c κs. c .before .before .pre .certificate-bytes) (λ c κs. search needs) worth-requires (λ c κs. search needs) (λ c κs. search needs) (λ c κs. search needs) plus-requires-2 returns)

@@ -12,7 +12,7 @@ factored-requires : tie.Need-factored-requires
 factored-requires c κs = let s = c .before .before .before in rw (c .flowgate-price-at .ensures) (flowgate-room (s .pre .0) (s .args .flowgate) (s .pre .1))
 
 flowgate-limit-at-requires : tie.Need-flowgate-limit-at-requires
-flowgate-limit-at-requires c κs = let s = c .before .before .before .before in flowgate-in (s .pre .0 .case-bytes) (s .pre .0 .valid) (s .args .flowgate) (s .pre .1)
+flowgate-limit-at-requires c κs = let s = c .before .before .before .before in flowgate-in (s .pre .0 .case-bytes) (s .args .flowgate) (s .pre .1)
 
 worth-requires : tie.Need-worth-requires
 worth-requires c κs =

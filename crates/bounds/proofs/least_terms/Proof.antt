@@ -4,7 +4,7 @@ use native.Mathlib.Omega.{arith}
 use Rattle.market.specs.CaseFile.{caseOf}
 use Rattle.market.specs.Certificate.{certificateOf}
 use Rattle.market.specs.Records.{offerStepsOf}
-use Rattle.records.proofs.Places.{head-in, valid-resource-in, steps-are}
+use Rattle.records.proofs.Places.{head-in, resource-in, steps-are}
 use Rattle.records.proofs.Ranged.{valid-resource}
 use Rattle.prices.proofs.Known.{case-ranges, prices-in-range, resource-below}
 use Rattle.nets.proofs.Known.{nets-small}
@@ -23,7 +23,7 @@ offer-steps-at-requires : tie.Need-offer-steps-at-requires
 offer-steps-at-requires c κs =
     let s = c .before .before .before .before .before in
     let p = s .pre .0 .0 in
-    valid-resource-in (p .case-bytes) (p .valid) (s .args .i) (s .pre .0 .1)
+    resource-in (p .case-bytes) (s .args .i) (s .pre .0 .1)
 
 -- the steps that are read are the case's
 offered : (c : tie.After-offer-steps-at) →

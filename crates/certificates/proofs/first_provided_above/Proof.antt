@@ -11,7 +11,7 @@ use Rattle.market.specs.UpperBounds.{upperBound}
 use Rattle.market.specs.Certificate.{certificateOf}
 use Rattle.market.specs.Refusals.{clear, firstFailing, foundAt}
 use Rattle.market.specs.Outcome.{withinBound}
-use Rattle.records.proofs.Places.{head-in, valid-resource-in, record-is, steps-are}
+use Rattle.records.proofs.Places.{head-in, resource-in, record-is, steps-are}
 use Rattle.limits.proofs.Products.{terms-ranged}
 use Rattle.certificates.proofs.Figures.{resource-ranged, steps-ranged}
 use Rattle.certificates.proofs.Above.{provided, none-yet, still-none, found-here}
@@ -31,10 +31,10 @@ loop-holds : tie.Need-loop-holds Inv-loop μ-loop
 loop-holds c = (omega arith, refl, none-yet (withinBound (caseOf (c .before .before .before .args .b .now)) (certificateOf (c .before .before .before .args .q .now))))
 
 resource-at-requires : tie.Need-resource-at-requires Inv-loop μ-loop
-resource-at-requires c κs = let s = c .before .before .before .before .before in valid-resource-in (s .pre .case-bytes) (s .pre .valid) (c .before .loop .i) (omega arith)
+resource-at-requires c κs = let s = c .before .before .before .before .before in resource-in (s .pre .case-bytes) (c .before .loop .i) (omega arith)
 
 offer-steps-at-requires : tie.Need-offer-steps-at-requires Inv-loop μ-loop
-offer-steps-at-requires c κs = let s = c .before .before .before .before .before .before in valid-resource-in (s .pre .case-bytes) (s .pre .valid) (c .before .before .loop .i) (omega arith)
+offer-steps-at-requires c κs = let s = c .before .before .before .before .before .before in resource-in (s .pre .case-bytes) (c .before .before .loop .i) (omega arith)
 
 service-bounds-requires : tie.Need-service-bounds-requires Inv-loop μ-loop
 service-bounds-requires c κs =

@@ -9,7 +9,7 @@ use borrow.Author.Needs.{needs}
 use Rattle.arith.specs.Sums.{upto}
 use Rattle.market.specs.Records.{recordOf, offerStepsOf}
 use Rattle.market.specs.CaseFile.{caseOf}
-use Rattle.records.proofs.Places.{head-in, valid-resource-in, record-is, steps-are}
+use Rattle.records.proofs.Places.{head-in, resource-in, record-is, steps-are}
 use Rattle.costs.proofs.Known.{resource-known}
 use Rattle.arith.proofs.Buffers.{rest-length, write-on}
 use Rattle.charges.specs.Terms.{energyCharge, reserveCharges}
@@ -47,7 +47,7 @@ offer-steps-at-requires : tie.Need-offer-steps-at-requires
 offer-steps-at-requires c κs =
     let s = c .before .before .before .before .before .before .before in
     let p = s .pre .0 .0 .prices in
-    valid-resource-in (p .case-bytes) (p .valid) (s .args .i) (s .pre .0 .1)
+    resource-in (p .case-bytes) (s .args .i) (s .pre .0 .1)
 
 write-steps-requires : tie.Need-write-steps-requires
 write-steps-requires c κs =

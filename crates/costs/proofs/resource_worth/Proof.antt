@@ -4,7 +4,7 @@ use borrow.Author.Needs.{needs}
 use Rattle.market.specs.Records.{recordOf, offerStepsOf}
 use Rattle.market.specs.Certificate.{certificateOf}
 use Rattle.market.specs.CaseFile.{caseOf}
-use Rattle.records.proofs.Places.{valid-resource-in, record-is, steps-are}
+use Rattle.records.proofs.Places.{resource-in, record-is, steps-are}
 use Rattle.costs.specs.Worth.{thousands}
 use Rattle.costs.proofs.Known.{resource-known, steps-known, energy-known, amounts-known, resource-room}
 use Rattle.costs.proofs.Totals.{resource-worth-is}
@@ -20,7 +20,7 @@ steps : (c : tie.After-offer-steps-at) → let s = c .before .before .before .be
 steps c = let s = c .before .before .before .before .before in steps-are (s .pre .0 .prices .case-bytes) (s .args .i) (c .offer-steps-at .ensures)
 
 offer-steps-at-requires : tie.Need-offer-steps-at-requires
-offer-steps-at-requires c κs = let s = c .before .before .before .before in valid-resource-in (s .pre .0 .prices .case-bytes) (s .pre .0 .prices .valid) (s .args .i) (s .pre .1)
+offer-steps-at-requires c κs = let s = c .before .before .before .before in resource-in (s .pre .0 .prices .case-bytes) (s .args .i) (s .pre .1)
 
 energy-worth-requires : tie.Need-energy-worth-requires
 energy-worth-requires c κs = let s = c .before .before .before .before .before in rw (steps c, c .before .amounts-at .ensures) (steps-known (s .pre .0) (s .args .i) (s .pre .1), energy-known (s .pre .0) (s .args .i) (s .pre .1))

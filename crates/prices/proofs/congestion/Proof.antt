@@ -31,7 +31,7 @@ flowgate-price-at-requires : tie.Need-flowgate-price-at-requires Inv-loop μ-loo
 flowgate-price-at-requires c κs = let s = c .before .before .before .before in (s .pre .0 .certificate-bytes, omega arith)
 
 shift-factor-at-requires : tie.Need-shift-factor-at-requires Inv-loop μ-loop
-shift-factor-at-requires c κs = let s = c .before .before .before .before .before in factor-in (s .pre .0 .case-bytes) (s .pre .0 .valid) (c .before .before .loop .g) (s .args .i) (omega arith) (s .pre .1)
+shift-factor-at-requires c κs = let s = c .before .before .before .before .before in factor-in (s .pre .0 .case-bytes) (c .before .before .loop .g) (s .args .i) (omega arith) (s .pre .1)
 
 factored-requires : tie.Need-factored-requires Inv-loop μ-loop
 factored-requires c κs =

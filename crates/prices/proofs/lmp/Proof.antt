@@ -1,5 +1,5 @@
 use mathlib.Core.Path.{_∙_}
-use Rattle.prices.proofs.Known.{balance-read, lmp-is, lmp-room}
+use Rattle.prices.proofs.Known.{lmp-is, lmp-room}
 use borrow.Author.Needs.{needs}
 use Rattle.prices.proofs.lmp.Statement.{statement}
 use Rattle.prices.proofs.lmp.Tie as tie
@@ -13,4 +13,4 @@ returns c = let s = c .before .before .before .before .before in c .price-differ
 pub lmp-spec : {M : Type 1} → statement M
 lmp-spec =
     tie.close
-    (tie.spec (λ c κs. balance-read (c .before .before .pre .0)) (λ c κs. search needs) price-difference-requires returns)
+    (tie.spec (λ c κs. c .before .before .pre .0 .certificate-bytes) (λ c κs. search needs) price-difference-requires returns)

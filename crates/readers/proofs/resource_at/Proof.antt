@@ -4,7 +4,7 @@
 use contract.Running.{tablesOf}
 use Rattle.readers.proofs.Walk.{_≡_, refl, sym, ap, subst, _∙_, ℕ, _<_, _^_, List, [], _∷_, length, URA, named, erased, w64, Val, vint, SProp, ent, sep, snd∗, exE, id⊢, Lft, Share, Fml, ftrue, flft, Memory, Routine, Heap, Calls, Loops, WpFn, Tables, Atoms, sem, Lfts, Fun, fact, givenOf, tables, Given, ‵, raw, _⊛_, ⋆, some, later, _$_, _∵_, !, qed, by, move, drop, use1, use2, split, join, pick, fsplit, fjoin, suffices, frame, await, done, look, init, forget, stop, from, load, and-then, no-more, land, returns, enter, alloc1, alloc0, params1, pass1, pass0, free1, free0, FmC, fmOf, WpFn-mono, RattleType, owns, Is, shows, uint-makes, uint-vals, uint-tells, u8, usize, RefT, NamedLft, now, plain, namedLft, sliceVal, ShrSlice, slice-vals, shr-slice-tells, shr-slice-lawful, shr-slice-copy, owned, peeks, heard, nothing, Contract, Triple, calls-at, Vals, onEntry, Meets, tripleOf, entered, cited, says, needs, Stays, stay-none, stay-none-slice, walkOf, goes-none, goes-none-slice, Walks, ends-at, walked, walk-meets, yes, ensured, lasts}
 use denote.Struct.Laws as LL
-use Rattle.records.specs.Places.{ValidResource}
+use Rattle.records.specs.Places.{ResourceIn}
 use Rattle.market.specs.CaseFile.{resourceAt, resourcePlace}
 use Rattle.market.specs.Records.{recordOf}
 use Rattle.readers.specs.declared.CaseReader.{CaseReader}
@@ -53,7 +53,7 @@ module _ {M : Type 1} (𝓤 : URA M) (H : Heap 𝓤) (A : Atoms 𝓤) (W : Given
   Found x = recordOf (resourceAt (now (x .bytes)) (resourcePlace (x .zones) i))
 
   abbrev Within : CaseReader → Type 0
-  Within x = ValidResource (now (x .bytes)) (x .zones) i
+  Within x = ResourceIn (now (x .bytes)) (x .zones) i
 
   -- the struct's type as a local of a body has it
   abbrev αᵉ : NamedLft

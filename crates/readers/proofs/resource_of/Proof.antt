@@ -4,7 +4,7 @@
 use contract.Running.{tablesOf}
 use Rattle.readers.proofs.Walk.{_≡_, refl, ℕ, _<_, _^_, [], _∷_, Holds, length, URA, named, w64, Val, WT, hasTy, vint, SProp, ent, sep, snd∗, exE, id⊢, Lft, Share, Fml, ftrue, flft, Memory, Routine, Heap, Calls, Loops, WpFn, Tables, Atoms, sem, Lfts, Fun, fact, givenOf, tables, Given, ‵, raw, _⊛_, given, ⋆, some, later, _$_, _∵_, !, qed, by, move, drop, use1, use2, split, learn, pick, fsplit, fjoin, suffices, frame, await, done, whole, sub, look-in, look, init, forget, stop, fld, from, load, of-opd, and-then, no-more, assigns, land, returns, enter, alloc1, alloc0, params1, pass1, pass0, free1, free0, FmC, fmOf, WpFn-mono, RattleType, owns, Is, shows, uint-makes, uint-vals, uint-tells, u8, usize, now, namedLft, sliceVal, ShrSlice, owned, peeks, heard, nothing, Declared, all-own, ownAt, rest, own-open, own-out, Values, Contract, Triple, calls-at, Vals, onEntry, Meets, tripleOf, entered, cited, says, needs, Stays, stay-none, walkOf, goes-none, Walks, ends-at, walked, walk-meets, yes, ensured, lasts}
 use denote.Struct.Laws as LL
-use Rattle.records.specs.Places.{ValidResource}
+use Rattle.records.specs.Places.{ResourceIn}
 use Rattle.market.specs.CaseFile.{resourceAt, resourcePlace}
 use Rattle.market.specs.Records.{recordOf}
 use Rattle.readers.specs.declared.CaseReader.{CaseReader}
@@ -71,11 +71,11 @@ module _ {M : Type 1} (𝓤 : URA M) (H : Heap 𝓤) (A : Atoms 𝓤) (W : Given
   abbrev to : Callee 𝓤 H A mem run .Ghost
   to = (((κ, tt), (q, tt), tt, (d .bytes, ((d .zones), (i, tt))), passed), tt)
 
-  asked : (ValidResource (now (d .bytes)) (d .zones) i) → ent 𝓤 (onEntry 𝓤 H A step.signature (κ, tt) (q, tt) (d .bytes, ((d .zones), (i, tt))) passed) (Callee 𝓤 H A mem run .pre to)
+  asked : (ResourceIn (now (d .bytes)) (d .zones) i) → ent 𝓤 (onEntry 𝓤 H A step.signature (κ, tt) (q, tt) (d .bytes, ((d .zones), (i, tt))) passed) (Callee 𝓤 H A mem run .pre to)
   asked within = qed W ((‵ (flft κ q) ⊛ ‵ ftrue) ∷ ‵ (owns (ShrSlice (named 0) κ u8 ∷ usize ∷ usize ∷ []) (d .bytes, ((d .zones), (i, tt))) passed) ∷ []) ∵ says ! within $ frame ! $ done !
 
   -- what the struct owns gives what the callee asks, and is kept
-  apart : d .zones < 2 ^ 64 → i < 2 ^ 64 → (ValidResource (now (d .bytes)) (d .zones) i) → ent 𝓤 (onEntry 𝓤 H A this.signature (κ, tt) (q, tt) (d, (i, tt)) vals) (sep 𝓤 (Callee 𝓤 H A mem run .pre to) (sem 𝓤 H A Own))
+  apart : d .zones < 2 ^ 64 → i < 2 ^ 64 → (ResourceIn (now (d .bytes)) (d .zones) i) → ent 𝓤 (onEntry 𝓤 H A this.signature (κ, tt) (q, tt) (d, (i, tt)) vals) (sep 𝓤 (Callee 𝓤 H A mem run .pre to) (sem 𝓤 H A Own))
   apart f-zones g-i within =
       qed W ((‵ (flft κ q) ⊛ ‵ ftrue) ∷ ‵ (owns (B (κ, tt) ∷ usize ∷ []) (d, (i, tt)) vals) ∷ []) ∵
       move ! (1 ∷ []) $ fsplit ! $ move ! (1 ∷ []) $ drop ! $ use1 W (‵ Own ⊛ ‵ Own) (LL.copy D (T′.the-copy (namedLft 1 0 tt (κ, tt))) 𝓤 H A W .twice d (mach ∷ [])) $ split ! $
@@ -95,7 +95,7 @@ module _ {M : Type 1} (𝓤 : URA M) (H : Heap 𝓤) (A : Atoms 𝓤) (W : Given
       move ! (1 ∷ []) $ frame ! $ nothing ! $ owned ! usize (Is usize) (uint-makes 𝓤 H A W w64) i _ (refl, g-i) $ fjoin ! $ move ! (2 ∷ 0 ∷ []) $ fjoin ! $ frame ! $ done !
 
   module _ (C : Calls 𝓤 H) (Λ : Loops 𝓤 H) (fm : FmC 𝓤 H (W .laws) C) (known : Triple 𝓤 (C #step) (Callee 𝓤 H A mem run)) where
-    walk : Holds (hasTy (T′.mir (named 0)) mach) × WT mach → i < 2 ^ 64 → (ValidResource (now (d .bytes)) (d .zones) i) → ent 𝓤 (onEntry 𝓤 H A this.signature (κ, tt) (q, tt) (d, (i, tt)) vals) (WpFn 𝓤 H C Λ code.function (mach ∷ vint w64 i ∷ []) Post)
+    walk : Holds (hasTy (T′.mir (named 0)) mach) × WT mach → i < 2 ^ 64 → (ResourceIn (now (d .bytes)) (d .zones) i) → ent 𝓤 (onEntry 𝓤 H A this.signature (κ, tt) (q, tt) (d, (i, tt)) vals) (WpFn 𝓤 H C Λ code.function (mach ∷ vint w64 i ∷ []) Post)
     walk wt g-i within =
         qed W (raw (onEntry 𝓤 H A this.signature (κ, tt) (q, tt) (d, (i, tt)) vals) ∷ []) ∵ enter ! C Λ code.function (mach ∷ vint w64 i ∷ []) _ $
         alloc1 ! (λ l0. alloc1 ! (λ l1. alloc1 ! (λ l2. alloc1 ! (λ l3. alloc1 ! (λ l4. alloc0 ! $ params1 ! $ pass1 ! (init ! 6 refl wt) $ pass1 ! (init ! 4 refl (tt, record { fits = g-i })) $ pass0 ! $

@@ -1,15 +1,13 @@
--- `records::flowgate_limit_at` meets its contract: the counts passed are those of the bytes, and a valid case's limit is near 0.
--- Assumes nothing.
+-- `records::flowgate_limit_at` meets its contract: the counts passed are those of the bytes. Assumes nothing.
 use mathlib.Core.Path.{_∙_}
 use native.Mathlib.Omega.{arith}
 use borrow.Author.Needs.{needs}
 use Rattle.market.specs.CaseFile.{caseOf}
-use Rattle.records.proofs.Places.{near-limit}
 use Rattle.records.proofs.flowgate_limit_at.Statement.{statement}
 use Rattle.records.proofs.flowgate_limit_at.Tie as tie
 
 signed-kw-at-requires : tie.Need-signed-kw-at-requires
-signed-kw-at-requires c κs = let h = c .before .pre in (omega (arith, h .within), near-limit h)
+signed-kw-at-requires c κs = let h = c .before .pre in omega (arith, h .within)
 
 returns : tie.Need-returns
 unfolding caseOf

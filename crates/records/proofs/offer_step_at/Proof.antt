@@ -7,7 +7,7 @@ use Rattle.records.proofs.offer_step_at.Statement.{statement}
 use Rattle.records.proofs.offer_step_at.Tie as tie
 
 signed-cents-at-requires : tie.Need-signed-cents-at-requires
-signed-cents-at-requires c κs = let s = c .before .before in (omega (arith, s .pre .0 .within, s .pre .1), s .pre .0 .step-price (s .args .j) (s .pre .1))
+signed-cents-at-requires c κs = let s = c .before .before in omega (arith, s .pre .0, s .pre .1)
 
 returns : tie.Need-returns
 unfolding offerStepOf resourceAt

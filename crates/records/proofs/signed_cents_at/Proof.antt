@@ -6,7 +6,7 @@ use Rattle.records.proofs.signed_cents_at.Statement.{statement}
 use Rattle.records.proofs.signed_cents_at.Tie as tie
 
 returns : tie.Need-returns
-returns c = rw (toZ-ofZ (sfits-of {w = w64} (c .i32-small-at .ok)), c .i32-small-at .ensures)
+returns c = rw (toZ-ofZ (sfits-of {w = w64} (c .i32-at .ok)), c .i32-at .ensures)
 
 pub signed-cents-at-spec : {M : Type 1} → statement M
 signed-cents-at-spec = tie.close (tie.spec (λ c κs. search needs) returns)

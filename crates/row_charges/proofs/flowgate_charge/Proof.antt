@@ -22,7 +22,7 @@ factored-requires c κs =
     rw (c .flowgate-price-at .ensures) (record { left = omega (arith, small); right = omega arith; product = omega (arith, small) })
 
 flowgate-limit-at-requires : tie.Need-flowgate-limit-at-requires
-flowgate-limit-at-requires c κs = let s = c .before .before .before .before .before in flowgate-in (s .pre .0 .prices .case-bytes) (s .pre .0 .prices .valid) (s .args .g) (s .pre .1)
+flowgate-limit-at-requires c κs = let s = c .before .before .before .before .before in flowgate-in (s .pre .0 .prices .case-bytes) (s .args .g) (s .pre .1)
 
 flow-requires-2 : tie.Need-flow-requires-2
 flow-requires-2 c κs = let s = c .before .before .before .before .before .before in rw (c .flowgate-limit-at .ensures) (limit-room (s .pre .0) (s .args .g) (s .pre .1))

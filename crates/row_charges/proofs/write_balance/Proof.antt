@@ -8,7 +8,7 @@ use Rattle.market.specs.CaseFile.{caseOf}
 use Rattle.market.specs.Certificate.{certificateOf}
 use Rattle.market.specs.Rows.{Balance}
 use Rattle.records.proofs.Places.{resources-is}
-use Rattle.prices.proofs.Known.{balance-read, case-ranges, prices-in-range}
+use Rattle.prices.proofs.Known.{case-ranges, prices-in-range}
 use Rattle.rows.proofs.Known.{energy-bounded}
 use Rattle.arith.proofs.Buffers.{store-front}
 use Rattle.row_charges.specs.Families.{chargeOf}
@@ -42,7 +42,7 @@ pub write-balance-spec : {M : Type 1} → statement M
 write-balance-spec =
     tie.close
     (tie.spec
-    (λ c κs. balance-read (c .before .before .pre .0 .prices))
+    (λ c κs. c .before .before .pre .0 .prices .certificate-bytes)
     energy-total-requires
     (λ c κs. search needs)
     charge-requires

@@ -29,7 +29,7 @@ unfolding sumOf upto
 loop-holds c = search needs
 
 shift-factor-at-requires : tie.Need-shift-factor-at-requires Inv-loop μ-loop
-shift-factor-at-requires c κs = let s = c .before .before .before .before in factor-in (s .pre .0 .prices .case-bytes) (s .pre .0 .prices .valid) (s .args .g) (c .before .loop .i) (s .pre .1) (omega arith)
+shift-factor-at-requires c κs = let s = c .before .before .before .before in factor-in (s .pre .0 .prices .case-bytes) (s .args .g) (c .before .loop .i) (s .pre .1) (omega arith)
 
 amounts-at-requires : tie.Need-amounts-at-requires Inv-loop μ-loop
 amounts-at-requires c κs = let s = c .before .before .before .before .before in (s .pre .0 .prices .certificate-bytes, omega arith)

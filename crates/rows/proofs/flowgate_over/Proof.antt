@@ -15,7 +15,7 @@ use Rattle.rows.proofs.flowgate_over.Statement.{statement}
 use Rattle.rows.proofs.flowgate_over.Tie as tie
 
 flowgate-limit-at-requires : tie.Need-flowgate-limit-at-requires
-flowgate-limit-at-requires c κs = let s = c .before .before .before in flowgate-in (s .pre .0 .prices .case-bytes) (s .pre .0 .prices .valid) (s .args .g) (s .pre .1 .0)
+flowgate-limit-at-requires c κs = let s = c .before .before .before in flowgate-in (s .pre .0 .prices .case-bytes) (s .args .g) (s .pre .1 .0)
 
 flow-requires-2 : tie.Need-flow-requires-2
 flow-requires-2 c κs = let s = c .before .before .before .before in rw (c .flowgate-limit-at .ensures) (limit-room (s .pre .0) (s .args .g) (s .pre .1 .0))
