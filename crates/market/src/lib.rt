@@ -205,7 +205,7 @@ pub struct ReserveOffers {
     pub off_line_short_term: Cents,
 }
 
-// All of the record but its energy steps, which only the passes over offers ask for.
+// All of the record but its energy steps: they are more than half of it, and few functions use them.
 pub struct Resource {
     pub state: State,
     pub limits: OutputLimits,

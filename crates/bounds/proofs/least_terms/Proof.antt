@@ -4,7 +4,7 @@ use native.Mathlib.Omega.{arith}
 use Rattle.market.specs.CaseFile.{caseOf}
 use Rattle.market.specs.Certificate.{certificateOf}
 use Rattle.market.specs.Records.{offerStepsOf}
-use Rattle.records.proofs.Places.{head-in, resource-in, steps-are}
+use Rattle.records.proofs.Places.{head-in, steps-are}
 use Rattle.records.proofs.Ranged.{valid-resource}
 use Rattle.prices.proofs.Known.{case-ranges, prices-in-range, resource-below}
 use Rattle.nets.proofs.Known.{nets-small}
@@ -18,12 +18,6 @@ reserve-bounds-requires c κs =
     let s = c .before .before .before .before in
     let p = s .pre .0 .0 in
     ((head-in (p .case-bytes), p .valid), rw (s .pre .1) (valid-resource (s .args .b .now) (p .valid) (s .args .i) (resource-below p (s .pre .0 .1))))
-
-offer-steps-at-requires : tie.Need-offer-steps-at-requires
-offer-steps-at-requires c κs =
-    let s = c .before .before .before .before .before in
-    let p = s .pre .0 .0 in
-    resource-in (p .case-bytes) (s .args .i) (s .pre .0 .1)
 
 -- the steps that are read are the case's
 offered : (c : tie.After-offer-steps-at) →
@@ -64,4 +58,4 @@ returns c =
     }
 
 pub least-terms-spec : {M : Type 1} → statement M
-least-terms-spec = tie.close (tie.spec (λ c κs. search needs) (λ c κs. search needs) reserve-bounds-requires offer-steps-at-requires steps-least-requires reserves-least-requires (λ c κs. search needs) returns)
+least-terms-spec = tie.close (tie.spec (λ c κs. search needs) (λ c κs. search needs) reserve-bounds-requires (λ c κs. search needs) steps-least-requires reserves-least-requires (λ c κs. search needs) returns)

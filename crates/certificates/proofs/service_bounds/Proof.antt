@@ -1,5 +1,4 @@
 -- `certificates::service_bounds` meets its contract: energy, then the reserves. Assumes nothing.
-use mathlib.Core.Path.{_≡_}
 use borrow.Author.Needs.{needs}
 use Rattle.market.specs.Records.{amountsOf}
 use Rattle.market.specs.UpperBounds.{upperBound}

@@ -4,7 +4,7 @@ use borrow.Author.Needs.{needs}
 use Rattle.market.specs.Records.{recordOf, offerStepsOf}
 use Rattle.market.specs.Certificate.{certificateOf}
 use Rattle.market.specs.CaseFile.{caseOf}
-use Rattle.records.proofs.Places.{resource-in, record-is, steps-are}
+use Rattle.records.proofs.Places.{record-is, steps-are}
 use Rattle.costs.specs.Worth.{thousands}
 use Rattle.costs.proofs.Known.{resource-known, steps-known, energy-known, amounts-known, resource-room}
 use Rattle.costs.proofs.Totals.{resource-worth-is}
@@ -18,9 +18,6 @@ found c = record-is (c .before .before .before .pre .0 .prices .case-bytes) (c .
 -- so are the steps
 steps : (c : tie.After-offer-steps-at) → let s = c .before .before .before .before .before in c .offer-steps-at .result ≡ offerStepsOf (caseOf (s .args .b .now) .resource (s .args .i))
 steps c = let s = c .before .before .before .before .before in steps-are (s .pre .0 .prices .case-bytes) (s .args .i) (c .offer-steps-at .ensures)
-
-offer-steps-at-requires : tie.Need-offer-steps-at-requires
-offer-steps-at-requires c κs = let s = c .before .before .before .before in resource-in (s .pre .0 .prices .case-bytes) (s .args .i) (s .pre .1)
 
 energy-worth-requires : tie.Need-energy-worth-requires
 energy-worth-requires c κs = let s = c .before .before .before .before .before in rw (steps c, c .before .amounts-at .ensures) (steps-known (s .pre .0) (s .args .i) (s .pre .1), energy-known (s .pre .0) (s .args .i) (s .pre .1))
@@ -40,7 +37,7 @@ resource-worth-spec =
     (tie.spec
     (λ c κs. search needs)
     (λ c κs. search needs)
-    offer-steps-at-requires
+    (λ c κs. search needs)
     energy-worth-requires
     reserves-worth-requires
     sum-requires
