@@ -2,7 +2,7 @@
 use mathlib.Core.Path.{_≡_, refl, ap, _∙_}
 use mathlib.Core.Bool.{Bool, true, false, cond}
 use mathlib.Core.List.{List}
-use Prim.Native.Nat.{ℕ, suc, _+_, _<_, _≤_}
+use Prim.Native.Nat.{ℕ, suc, _<_, _≤_}
 use native.Mathlib.Omega.{arith}
 use lib.Dec.{eqb}
 use lib.IntN.{ℤ, pos, natAbs}
@@ -74,9 +74,9 @@ module _ (c : Case) (x : Schedule) (i : ℕ) where
   unfolding givenBy amountsOf
   given-is = refl
 
-  -- nothing to the rows of a zone in which it does not stand, all that it gives to its own; n is its zone, counted from 1
-  pub elsewhere : (y n : ℕ) → n ≡ c .resource i .zone → (n ≡ y + 1 → ⊥) → curveAmountsOf (λ k. pos 0) ≡ curveAmountsOf (λ k. reserveInZone c x y k i)
-  elsewhere y n e h = rw (ne-eqb (c .resource i .zone) (suc y) (λ k. h (omega arith)))
+  -- nothing to the rows of a zone in which it does not stand, all that it gives to its own
+  pub elsewhere : (y : ℕ) → (c .resource i .zone ≡ suc y → ⊥) → (k : Curve) → reserveInZone c x y k i ≡ pos 0
+  elsewhere y h k = rw (ne-eqb (c .resource i .zone) (suc y) h)
 
-  pub at-home : (y n : ℕ) → n ≡ c .resource i .zone → n ≡ y + 1 → curveAmountsOf (λ k. reserveOf c x k i) ≡ curveAmountsOf (λ k. reserveInZone c x y k i)
-  at-home y n e h = rw (eq-eqb (c .resource i .zone) (suc y) (omega arith))
+  pub at-home : (y : ℕ) → c .resource i .zone ≡ suc y → curveAmountsOf (λ k. reserveOf c x k i) ≡ curveAmountsOf (λ k. reserveInZone c x y k i)
+  at-home y h = rw (eq-eqb (c .resource i .zone) (suc y) h)

@@ -1,2 +1,4 @@
 pub mod Known
 pub mod Sums
+pub mod Tables
+pub mod Zones

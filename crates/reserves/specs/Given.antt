@@ -1,11 +1,17 @@
 -- Amounts and sums for the reserve rows, by value, and what their additions ask for.
-use Prim.Native.Nat.{_≤_}
+use mathlib.Core.List.{List, map}
+use Prim.Native.Nat.{ℕ, _≤_}
 use lib.IntN.{natAbs, _+ℤ_}
+use Rattle.arith.specs.Sums.{sumOf, upto}
 use Rattle.market.specs.declared.Amounts.{Amounts}
 use Rattle.market.specs.declared.CurveAmounts.{CurveAmounts}
 use Rattle.market.specs.declared.Kw.{Kw}
-use Rattle.market.specs.Records.{kw}
+use Rattle.market.specs.CaseFile.{caseOf}
+use Rattle.market.specs.Certificate.{certificateOf}
+use Rattle.market.specs.InWords.{reserveOf, reserveInZone}
+use Rattle.market.specs.Records.{kw, curveAmountsOf}
 use Rattle.units.specs.Room.{SumRoom}
+use Rattle.reserves.specs.declared.ReserveTotals.{ReserveTotals}
 
 -- amounts of a resource, each within its bound and so at most 2,000,000 kW
 pub record SmallAmounts (a : Amounts) : Type 0 where
@@ -40,3 +46,18 @@ addedAmounts a b =
       regulating = kw (a .regulating .0 +ℤ b .regulating .0);
       «short_term» = kw (a .«short_term» .0 +ℤ b .«short_term» .0);
     }
+
+-- ---- what the first n resources give, of the case in b and the certificate in q
+abbrev pub marketTotal : List ℕ → List ℕ → ℕ → CurveAmounts
+marketTotal b q n = curveAmountsOf (λ k. sumOf (reserveOf (caseOf b) (certificateOf q .amount) k) (upto n))
+
+-- to a zone, counted from 0
+abbrev pub zoneTotal : List ℕ → List ℕ → ℕ → ℕ → CurveAmounts
+zoneTotal b q n zone = curveAmountsOf (λ k. sumOf (reserveInZone (caseOf b) (certificateOf q .amount) zone k) (upto n))
+
+-- to each of eight zones, which is as many as a case may have
+abbrev pub zoneTotals : List ℕ → List ℕ → ℕ → List CurveAmounts
+zoneTotals b q n = map (zoneTotal b q n) (upto 8)
+
+abbrev pub totalsOf : List ℕ → List ℕ → ℕ → ReserveTotals
+totalsOf b q n = record { market = marketTotal b q n; zones = zoneTotals b q n }

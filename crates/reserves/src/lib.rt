@@ -1,17 +1,16 @@
-// What resources give to the four reserve rows, g+c, g+spin, g and s+o, and the sums of that market-wide and in a zone
+// What resources give to the four reserve rows, g+c, g+spin, g and s+o, and the sums of that market-wide and in each zone
 // (01, 'Rows'). Spin is c of an on-line resource with flag 2.
 ghost use mathlib.Core.Path.{_≡_};
 ghost use mathlib.Core.Bool.{cond};
 ghost use Prim.Native.Nat.{_<_, _≤_};
 ghost use lib.IntN.{pos, natAbs};
-ghost use Rattle.arith.specs.Sums.{sumOf, upto};
 ghost use Rattle.market.specs.Case.{Resource as Figures};
 ghost use Rattle.market.specs.CaseFile.{caseOf};
 ghost use Rattle.market.specs.Certificate.{certificateOf};
-ghost use Rattle.market.specs.InWords.{isSpinning, reserveOf, reserveInZone};
+ghost use Rattle.market.specs.InWords.{isSpinning, reserveOf};
 ghost use Rattle.market.specs.Records.{kw, curveAmountsOf, stateOf};
 ghost use Rattle.prices.specs.Standing.{Standing};
-ghost use Rattle.reserves.specs.Given.{SmallAmounts, SumsRoom, givenBy, addedAmounts};
+ghost use Rattle.reserves.specs.Given.{SmallAmounts, SumsRoom, givenBy, addedAmounts, totalsOf};
 use market::Amounts;
 use market::CurveAmounts;
 use market::Kw;
@@ -69,26 +68,6 @@ fn nothing() -> CurveAmounts
     }
 }
 
-// What resource i gives to the rows of a zone: nothing if it stands in another. Zones count from 0 here, from 1 in the file.
-fn given_in_zone(
-    b: &[u8],
-    q: &[u8],
-    r: usize,
-    z: usize,
-    f: usize,
-    zone: usize,
-    i: usize,
-) -> CurveAmounts
-    requires { ⌜ Standing (now b) (now q) r z f × ((zone < z) × (i < r)) ⌝ }
-    ensures { λ v. ⌜ v ≡ curveAmountsOf (λ k. reserveInZone (caseOf (now (b .entry))) (certificateOf (now (q .entry)) .amount) zone k i) ⌝ }
-{
-    let home = readers::resource_zone(b, r, z, f, i) as usize;
-    if home != zone + 1 {
-        return nothing();
-    }
-    reserve_given(b, q, r, z, f, i)
-}
-
 // ---- sums
 
 fn amounts_sum(a: CurveAmounts, b: CurveAmounts) -> CurveAmounts
@@ -106,32 +85,26 @@ fn amounts_sum(a: CurveAmounts, b: CurveAmounts) -> CurveAmounts
     }
 }
 
-// What all resources give.
-pub fn market_reserves(b: &[u8], q: &[u8], r: usize, z: usize, f: usize) -> CurveAmounts
+// What all resources give to the market's rows, and those of each zone to its rows. A case has at most eight zones; they
+// count from 0 here, from 1 in the file.
+pub struct ReserveTotals {
+    pub market: CurveAmounts,
+    pub zones: [CurveAmounts; 8],
+}
+
+pub fn totals(b: &[u8], q: &[u8], r: usize, z: usize, f: usize) -> ReserveTotals
     requires { ⌜ Standing (now b) (now q) r z f ⌝ }
-    ensures { λ v. ⌜ v ≡ curveAmountsOf (λ k. sumOf (reserveOf (caseOf (now (b .entry))) (certificateOf (now (q .entry)) .amount) k) (upto r)) ⌝ }
+    ensures { λ v. ⌜ v ≡ totalsOf (now (b .entry)) (now (q .entry)) r ⌝ }
 {
-    let mut sum = nothing();
+    let mut market = nothing();
+    let mut zones = [market; 8];
     let mut i: usize = 0;
     while i < r {
         let own = reserve_given(b, q, r, z, f, i);
-        sum = amounts_sum(sum, own);
+        market = amounts_sum(market, own);
+        let zone = readers::resource_zone(b, r, z, f, i) as usize - 1;
+        zones[zone] = amounts_sum(zones[zone], own);
         i += 1;
     }
-    sum
-}
-
-// What the resources of a zone give.
-pub fn zone_reserves(b: &[u8], q: &[u8], r: usize, z: usize, f: usize, zone: usize) -> CurveAmounts
-    requires { ⌜ Standing (now b) (now q) r z f × (zone < z) ⌝ }
-    ensures { λ v. ⌜ v ≡ curveAmountsOf (λ k. sumOf (reserveInZone (caseOf (now (b .entry))) (certificateOf (now (q .entry)) .amount) zone k) (upto r)) ⌝ }
-{
-    let mut sum = nothing();
-    let mut i: usize = 0;
-    while i < r {
-        let own = given_in_zone(b, q, r, z, f, zone, i);
-        sum = amounts_sum(sum, own);
-        i += 1;
-    }
-    sum
+    ReserveTotals { market, zones }
 }

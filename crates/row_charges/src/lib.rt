@@ -12,6 +12,7 @@ ghost use Rattle.market.specs.Rows.{Balance, Zone, Flowgate, Limited, limits, m
 ghost use Rattle.market.specs.Certificate.{certificateOf};
 ghost use Rattle.market.specs.Charges.{rowCharge};
 ghost use Rattle.prices.specs.Standing.{Standing};
+ghost use Rattle.reserves.specs.Given.{marketTotal, zoneTotal, zoneTotals};
 ghost use Rattle.row_charges.specs.Families.{ChargeRoom, FourRoom, FiveRoom, chargeOf, fourCharges, fiveCharges};
 use limits::ResourceLimits;
 use market::Amounts;
@@ -65,47 +66,82 @@ fn write_four(prices: ReservePrices, have: CurveAmounts, need: CurveAmounts, out
 }
 
 // Against the cleared quantities.
-fn write_market(b: &[u8], q: &[u8], r: usize, z: usize, f: usize, out: &mut [i64])
+fn write_market(
+    b: &[u8],
+    q: &[u8],
+    r: usize,
+    z: usize,
+    f: usize,
+    have: CurveAmounts,
+    out: &mut [i64],
+)
     requires { ⌜ Standing (now b) (now q) r z f × (4 ≤ length (now out)) ⌝ }
+    requires { ⌜ have ≡ marketTotal (now b) (now q) r ⌝ }
     ensures { λ _. ⌜ now (out .exit) ≡ map (chargeOf (now (b .entry)) (now (q .entry))) marketRows ++ drop 4 (now (out .entry)) ⌝ }
 {
     let prices = entries::market_prices(q, r, z, f);
-    let have = reserves::market_reserves(b, q, r, z, f);
     let need = entries::cleared(q, r, z, f);
     write_four(prices, have, need, out);
 }
 
 // Rows 1 to 5.
-fn write_system(b: &[u8], q: &[u8], r: usize, z: usize, f: usize, out: &mut [i64])
+fn write_system(
+    b: &[u8],
+    q: &[u8],
+    r: usize,
+    z: usize,
+    f: usize,
+    have: CurveAmounts,
+    out: &mut [i64],
+)
     requires { ⌜ Standing (now b) (now q) r z f × (5 ≤ length (now out)) ⌝ }
+    requires { ⌜ have ≡ marketTotal (now b) (now q) r ⌝ }
     ensures { λ _. ⌜ now (out .exit) ≡ map (chargeOf (now (b .entry)) (now (q .entry))) (Balance ∷ marketRows) ++ drop 5 (now (out .entry)) ⌝ }
 {
     write_balance(b, q, r, z, f, out);
-    write_market(b, q, r, z, f, &mut out[1..]);
+    write_market(b, q, r, z, f, have, &mut out[1..]);
 }
 
 // ---- zones' reserve rows
 
 // Against what the zone needs.
-fn write_zone(b: &[u8], q: &[u8], r: usize, z: usize, f: usize, zone: usize, out: &mut [i64])
+fn write_zone(
+    b: &[u8],
+    q: &[u8],
+    r: usize,
+    z: usize,
+    f: usize,
+    zone: usize,
+    have: CurveAmounts,
+    out: &mut [i64],
+)
     requires { ⌜ Standing (now b) (now q) r z f × ((zone < z) × (4 ≤ length (now out))) ⌝ }
+    requires { ⌜ have ≡ zoneTotal (now b) (now q) r zone ⌝ }
     ensures { λ _. ⌜ now (out .exit) ≡ map (chargeOf (now (b .entry)) (now (q .entry))) (map (Zone zone) curves) ++ drop 4 (now (out .entry)) ⌝ }
 {
     let prices = entries::zone_prices_at(q, r, z, f, zone);
-    let have = reserves::zone_reserves(b, q, r, z, f, zone);
     let need = rows::required(b, r, z, f, zone);
     write_four(prices, have, need, out);
 }
 
 // Each zone's, from its own place on.
-fn write_zones(b: &[u8], q: &[u8], r: usize, z: usize, f: usize, out: &mut [i64])
+fn write_zones(
+    b: &[u8],
+    q: &[u8],
+    r: usize,
+    z: usize,
+    f: usize,
+    have: [CurveAmounts; 8],
+    out: &mut [i64],
+)
     requires { ⌜ Standing (now b) (now q) r z f × (z * 4 ≤ length (now out)) ⌝ }
+    requires { ⌜ have ≡ zoneTotals (now b) (now q) r ⌝ }
     ensures { λ _. ⌜ now (out .exit) ≡ map (chargeOf (now (b .entry)) (now (q .entry))) (zoneRows (caseOf (now (b .entry)))) ++ drop (z * 4) (now (out .entry)) ⌝ }
 {
     let mut zone: usize = 0;
     let mut at: usize = 0;
     while zone < z {
-        write_zone(b, q, r, z, f, zone, &mut out[at..]);
+        write_zone(b, q, r, z, f, zone, have[zone], &mut out[at..]);
         at += 4;
         zone += 1;
     }
@@ -202,7 +238,9 @@ pub fn write_row_charges(b: &[u8], q: &[u8], r: usize, z: usize, f: usize, out: 
     ensures { λ _. ⌜ now (out .exit) ≡ map (rowCharge (caseOf (now (b .entry))) (certificateOf (now (q .entry)) .amount) (certificateOf (now (q .entry)) .price)) (rows (caseOf (now (b .entry)))) ++ drop (5 + z * 4 + f + r * 5) (now (out .entry)) ⌝ }
 {
     let at = 5 + z * 4;
-    write_system(b, q, r, z, f, out);
-    write_zones(b, q, r, z, f, &mut out[5..]);
+    let have = reserves::totals(b, q, r, z, f);
+    let in_zones = have.zones;
+    write_system(b, q, r, z, f, have.market, out);
+    write_zones(b, q, r, z, f, in_zones, &mut out[5..]);
     write_network(b, q, r, z, f, &mut out[at..]);
 }

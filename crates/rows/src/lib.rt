@@ -18,7 +18,7 @@ ghost use Rattle.market.specs.Outcome.{rowMet};
 ghost use Rattle.records.specs.Places.{ZoneIn};
 ghost use Rattle.entries.specs.CertificateBytes.{CertificateBytes};
 ghost use Rattle.prices.specs.Standing.{Standing};
-ghost use Rattle.reserves.specs.Given.{SmallAmounts};
+ghost use Rattle.reserves.specs.Given.{SmallAmounts, marketTotal, zoneTotal, zoneTotals};
 ghost use Rattle.rows.specs.Tests.{firstFalse, shortTests, limitTests, EnergyBounded, brokenFrom, Numbered};
 use limits::ResourceLimits;
 use market::Amounts;
@@ -78,11 +78,10 @@ fn first_short(have: CurveAmounts, need: CurveAmounts, first: u32) -> u32
 }
 
 // Market-wide against the cleared quantities: rows 2 to 5.
-fn market_short(b: &[u8], q: &[u8], r: usize, z: usize, f: usize) -> u32
-    requires { ⌜ Standing (now b) (now q) r z f ⌝ }
+fn market_short(b: &[u8], q: &[u8], r: usize, z: usize, f: usize, have: CurveAmounts) -> u32
+    requires { ⌜ Standing (now b) (now q) r z f × (have ≡ marketTotal (now b) (now q) r) ⌝ }
     ensures { λ n. ⌜ foundAt RowBroken n ≡ brokenFrom (now (b .entry)) (now (q .entry)) 2 marketRows ⌝ }
 {
-    let have = reserves::market_reserves(b, q, r, z, f);
     let need = entries::cleared(q, r, z, f);
     first_short(have, need, 2)
 }
@@ -102,23 +101,32 @@ pub fn required(b: &[u8], r: usize, z: usize, f: usize, zone: usize) -> CurveAmo
 }
 
 // A zone's four rows, numbered from `first`.
-fn zone_short(b: &[u8], q: &[u8], r: usize, z: usize, f: usize, zone: usize, first: u32) -> u32
+fn zone_short(
+    b: &[u8],
+    q: &[u8],
+    r: usize,
+    z: usize,
+    f: usize,
+    zone: usize,
+    have: CurveAmounts,
+    first: u32,
+) -> u32
     requires { ⌜ Standing (now b) (now q) r z f × ((zone < z) × Numbered 374 first) ⌝ }
+    requires { ⌜ have ≡ zoneTotal (now b) (now q) r zone ⌝ }
     ensures { λ n. ⌜ foundAt RowBroken n ≡ brokenFrom (now (b .entry)) (now (q .entry)) first (map (Zone zone) curves) ⌝ }
 {
-    let have = reserves::zone_reserves(b, q, r, z, f, zone);
     let need = required(b, r, z, f, zone);
     first_short(have, need, first)
 }
 
-fn zones_short(b: &[u8], q: &[u8], r: usize, z: usize, f: usize) -> u32
-    requires { ⌜ Standing (now b) (now q) r z f ⌝ }
+fn zones_short(b: &[u8], q: &[u8], r: usize, z: usize, f: usize, have: [CurveAmounts; 8]) -> u32
+    requires { ⌜ Standing (now b) (now q) r z f × (have ≡ zoneTotals (now b) (now q) r) ⌝ }
     ensures { λ n. ⌜ foundAt RowBroken n ≡ brokenFrom (now (b .entry)) (now (q .entry)) 6 (zoneRows (caseOf (now (b .entry)))) ⌝ }
 {
     let mut row: u32 = 6;
     let mut zone: usize = 0;
     while zone < z {
-        let n = zone_short(b, q, r, z, f, zone, row);
+        let n = zone_short(b, q, r, z, f, zone, have[zone], row);
         if n != 0 {
             return n;
         }
@@ -258,11 +266,13 @@ pub fn first_broken(b: &[u8], q: &[u8], r: usize, z: usize, f: usize) -> u32
     if !balanced(b, q, r, z, f) {
         return 1;
     }
-    let market = market_short(b, q, r, z, f);
+    let have = reserves::totals(b, q, r, z, f);
+    let market = market_short(b, q, r, z, f, have.market);
     if market != 0 {
         return market;
     }
-    let zones = zones_short(b, q, r, z, f);
+    let in_zones = have.zones;
+    let zones = zones_short(b, q, r, z, f, in_zones);
     if zones != 0 {
         return zones;
     }

@@ -14,22 +14,21 @@ use Rattle.row_charges.proofs.write_market.Tie as tie
 
 write-four-requires : tie.Need-write-four-requires
 write-four-requires c κs =
-    let s = c .before .before .before .before .before .before in
-    rw (c .before .before .before .market-prices .ensures, c .before .before .market-reserves .ensures, c .before .cleared .ensures)
-    (market-room (caseOf (s .args .b .now)) (certificateOf (s .args .q .now) .amount) (certificateOf (s .args .q .now) .price) (case-ranges (s .pre .0 .prices)) (prices-in-range (s .pre .0 .prices)) (s .pre .0 .bounded) (s .args .r) (resources-is (s .pre .0 .prices .case-bytes)), s .pre .1)
+    let s = c .before .before .before .before .before in
+    rw (c .before .before .market-prices .ensures, s .pre .1, c .before .cleared .ensures)
+    (market-room (caseOf (s .args .b .now)) (certificateOf (s .args .q .now) .amount) (certificateOf (s .args .q .now) .price) (case-ranges (s .pre .0 .0 .prices)) (prices-in-range (s .pre .0 .0 .prices)) (s .pre .0 .0 .bounded) (s .args .r) (resources-is (s .pre .0 .0 .prices .case-bytes)), s .pre .0 .1)
 
 returns : tie.Need-returns
 returns c =
-    let s = c .before .before .before .before .before .before .before .before in
+    let s = c .before .before .before .before .before .before .before in
     c .before .write-four .ensures
-    ∙ rw (c .before .before .before .before .before .market-prices .ensures, c .before .before .before .before .market-reserves .ensures, c .before .before .before .cleared .ensures)
-    (ap (λ (l : List ℤ). l ++ drop 4 (s .args .out .now)) (market-charges (caseOf (s .args .b .now)) (certificateOf (s .args .q .now) .amount) (certificateOf (s .args .q .now) .price) (s .args .r) (resources-is (s .pre .0 .prices .case-bytes))))
+    ∙ rw (c .before .before .before .before .market-prices .ensures, s .pre .1, c .before .before .before .cleared .ensures)
+    (ap (λ (l : List ℤ). l ++ drop 4 (s .args .out .now)) (market-charges (caseOf (s .args .b .now)) (certificateOf (s .args .q .now) .amount) (certificateOf (s .args .q .now) .price) (s .args .r) (resources-is (s .pre .0 .0 .prices .case-bytes))))
 
 pub write-market-spec : {M : Type 1} → statement M
 write-market-spec =
     tie.close
     (tie.spec
-    (λ c κs. search needs)
     (λ c κs. search needs)
     (λ c κs. search needs)
     write-four-requires

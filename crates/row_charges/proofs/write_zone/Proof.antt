@@ -14,25 +14,24 @@ use Rattle.row_charges.proofs.write_zone.Tie as tie
 
 write-four-requires : tie.Need-write-four-requires
 write-four-requires c κs =
-    let s = c .before .before .before .before .before .before in
-    rw (c .before .before .before .zone-prices-at .ensures, c .before .before .zone-reserves .ensures, c .before .required .ensures) (
-      zone-room (caseOf (s .args .b .now)) (certificateOf (s .args .q .now) .amount) (certificateOf (s .args .q .now) .price) (case-ranges (s .pre .0 .prices)) (prices-in-range (s .pre .0 .prices)) (s .pre .0 .bounded)
-          (s .args .r) (s .args .zone) (resources-is (s .pre .0 .prices .case-bytes)) (zone-below (s .pre .0 .prices) (s .pre .1 .0)),
-      s .pre .1 .1,
+    let s = c .before .before .before .before .before in
+    rw (c .before .before .zone-prices-at .ensures, s .pre .1, c .before .required .ensures) (
+      zone-room (caseOf (s .args .b .now)) (certificateOf (s .args .q .now) .amount) (certificateOf (s .args .q .now) .price) (case-ranges (s .pre .0 .0 .prices)) (prices-in-range (s .pre .0 .0 .prices)) (s .pre .0 .0 .bounded)
+          (s .args .r) (s .args .zone) (resources-is (s .pre .0 .0 .prices .case-bytes)) (zone-below (s .pre .0 .0 .prices) (s .pre .0 .1 .0)),
+      s .pre .0 .1 .1,
     )
 
 returns : tie.Need-returns
 returns c =
-    let s = c .before .before .before .before .before .before .before .before in
+    let s = c .before .before .before .before .before .before .before in
     c .before .write-four .ensures
-    ∙ rw (c .before .before .before .before .before .zone-prices-at .ensures, c .before .before .before .before .zone-reserves .ensures, c .before .before .before .required .ensures)
-    (ap (λ (l : List ℤ). l ++ drop 4 (s .args .out .now)) (zone-charges (caseOf (s .args .b .now)) (certificateOf (s .args .q .now) .amount) (certificateOf (s .args .q .now) .price) (s .args .r) (s .args .zone) (resources-is (s .pre .0 .prices .case-bytes))))
+    ∙ rw (c .before .before .before .before .zone-prices-at .ensures, s .pre .1, c .before .before .before .required .ensures)
+    (ap (λ (l : List ℤ). l ++ drop 4 (s .args .out .now)) (zone-charges (caseOf (s .args .b .now)) (certificateOf (s .args .q .now) .amount) (certificateOf (s .args .q .now) .price) (s .args .r) (s .args .zone) (resources-is (s .pre .0 .0 .prices .case-bytes))))
 
 pub write-zone-spec : {M : Type 1} → statement M
 write-zone-spec =
     tie.close
     (tie.spec
-    (λ c κs. search needs)
     (λ c κs. search needs)
     (λ c κs. search needs)
     write-four-requires

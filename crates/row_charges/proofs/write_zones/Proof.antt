@@ -11,6 +11,8 @@ use Rattle.arith.specs.Sums.{upto, across}
 use Rattle.market.specs.Case.{curves}
 use Rattle.market.specs.Rows.{Zone}
 use Rattle.records.proofs.Places.{zones-is}
+use Rattle.reserves.specs.Given.{zoneTotal}
+use Rattle.reserves.proofs.Tables.{table-entry}
 use Rattle.arith.proofs.Buffers.{rest-length}
 use Rattle.row_charges.specs.Families.{chargeOf}
 use Rattle.row_charges.proofs.Written.{block-written, blocks-done}
@@ -18,28 +20,34 @@ use Rattle.row_charges.proofs.write_zones.Statement.{statement}
 use Rattle.row_charges.proofs.write_zones.Tie as tie
 
 abbrev Inv-loop : tie.InvT-loop
-Inv-loop b q r z f out₀ zone₀ at₀ out zone at = (zone ≤ z) × (at ≡ zone * 4) × (length out ≡ length out₀) × (out ≡ map (chargeOf b q) (across (λ k. map (Zone k) curves) (upto zone)) ++ drop (zone * 4) out₀)
+Inv-loop b q r z f out₀ have zone₀ at₀ out zone at = (zone ≤ z) × (at ≡ zone * 4) × (length out ≡ length out₀) × (out ≡ map (chargeOf b q) (across (λ k. map (Zone k) curves) (upto zone)) ++ drop (zone * 4) out₀)
 
 abbrev μ-loop : tie.MeasureT-loop
-μ-loop b q r z f out₀ zone₀ at₀ out zone at = z - zone
+μ-loop b q r z f out₀ have zone₀ at₀ out zone at = z - zone
 
 loop-holds : tie.Need-loop-holds Inv-loop μ-loop
 unfolding upto across
 loop-holds c = search needs
 
+in-array : tie.Need-array-copy-out-write-zone Inv-loop μ-loop
+in-array c = let s = c .before .before .before .before in omega (arith, s .pre .0 .0 .prices .case-bytes .most-zones)
+
 write-zone-requires : tie.Need-write-zone-requires Inv-loop μ-loop
 write-zone-requires c κs =
-    let s = c .before .before .before .before .before in
-    (s .pre .0, (omega arith, rw (rest-length (c .before .before .loop .at) (c .before .before .loop .out)) (omega arith)))
+    let s = c .before .before .before .before .before .before in
+    let l = c .before .before .before .loop in (
+      (s .pre .0 .0, (omega arith, rw (rest-length (l .at) (l .out)) (omega arith))),
+      rw (s .pre .1) (table-entry _ (zoneTotal (s .args .b .now) (s .args .q .now) (s .args .r)) 8 (l .zone) (in-array (c .before .before))),
+    )
 
 loop-again : tie.Need-loop-again Inv-loop μ-loop
 loop-again c =
-    let s = c .before .before .before .before .before .before .before in
-    let l = c .before .before .before .before .loop in
-    let last = c .before .write-zone .last .1 .1 .1 .1 .1 .1 .0 in (
+    let s = c .before .before .before .before .before .before .before .before in
+    let l = c .before .before .before .before .before .loop in
+    let last = c .before .write-zone .last .1 .1 .1 .1 .1 .1 .1 .0 in (
       omega arith,
       omega arith,
-      same-len-mid (l .at) (length (l .out) - l .at) (l .out) last (c .before .write-zone .kept .1 .1 .1 .1 .1 .1 .0) ∙ l .inv .2,
+      same-len-mid (l .at) (length (l .out) - l .at) (l .out) last (c .before .write-zone .kept .1 .1 .1 .1 .1 .1 .1 .0) ∙ l .inv .2,
       block-written (chargeOf (s .args .b .now) (s .args .q .now)) (λ k. map (Zone k) curves) 4 (λ k. refl) (l .zone) (l .at) (s .args .out .now) (l .out) last (l .inv .1) (omega arith) (l .inv .3) (c .before .write-zone .ensures),
     )
 
@@ -47,7 +55,7 @@ returns : tie.Need-returns Inv-loop μ-loop
 returns c =
     let s = c .before .before .before .before in
     let l = c .before .loop in
-    blocks-done (chargeOf (s .args .b .now) (s .args .q .now)) (λ k. map (Zone k) curves) 4 (λ k. refl) (omega arith) (zones-is (s .pre .0 .prices .case-bytes)) (s .args .out .now) (l .out) (l .inv .3)
+    blocks-done (chargeOf (s .args .b .now) (s .args .q .now)) (λ k. map (Zone k) curves) 4 (λ k. refl) (omega arith) (zones-is (s .pre .0 .0 .prices .case-bytes)) (s .args .out .now) (l .out) (l .inv .3)
 
 pub write-zones-spec : {M : Type 1} → statement M
 write-zones-spec =
@@ -56,6 +64,8 @@ write-zones-spec =
     Inv-loop
     μ-loop
     loop-holds
+    (λ c. search needs)
+    in-array
     (λ c. search needs)
     (λ c. search needs)
     (λ c. search needs)

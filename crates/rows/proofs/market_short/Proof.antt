@@ -13,15 +13,14 @@ use Rattle.rows.proofs.market_short.Tie as tie
 
 returns : tie.Need-returns
 returns c =
-    let s = c .before .before .before .before .before in
-    rw (c .first-short .ensures, c .before .before .market-reserves .ensures, c .before .cleared .ensures, market-tests (caseOf (s .args .b .now)) (certificateOf (s .args .q .now)) (s .args .r) (resources-is (s .pre .prices .case-bytes)))
+    let s = c .before .before .before .before in
+    rw (c .first-short .ensures, s .pre .1, c .before .cleared .ensures, market-tests (caseOf (s .args .b .now)) (certificateOf (s .args .q .now)) (s .args .r) (resources-is (s .pre .0 .prices .case-bytes)))
     (first-false (rowMet (caseOf (s .args .b .now)) (certificateOf (s .args .q .now))) RowBroken 2 marketRows (omega arith))
 
 pub market-short-spec : {M : Type 1} → statement M
 market-short-spec =
     tie.close
     (tie.spec
-    (λ c κs. search needs)
     (λ c κs. search needs)
     (λ c κs. search needs)
     returns)

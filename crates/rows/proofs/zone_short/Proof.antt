@@ -13,19 +13,18 @@ use Rattle.rows.proofs.zone_short.Statement.{statement}
 use Rattle.rows.proofs.zone_short.Tie as tie
 
 required-requires : tie.Need-required-requires
-required-requires c κs = let s = c .before .before .before in zone-in (s .pre .0 .prices .case-bytes) (s .args .zone) (s .pre .1 .0)
+required-requires c κs = let s = c .before .before in zone-in (s .pre .0 .0 .prices .case-bytes) (s .args .zone) (s .pre .0 .1 .0)
 
 returns : tie.Need-returns
 returns c =
-    let s = c .before .before .before .before .before in
-    rw (c .first-short .ensures, c .before .before .zone-reserves .ensures, c .before .required .ensures, zone-tests (caseOf (s .args .b .now)) (certificateOf (s .args .q .now)) (s .args .r) (s .args .zone) (resources-is (s .pre .0 .prices .case-bytes)))
-    (first-false (rowMet (caseOf (s .args .b .now)) (certificateOf (s .args .q .now))) RowBroken (s .args .first) (map (Zone (s .args .zone)) curves) (s .pre .1 .1 .from))
+    let s = c .before .before .before .before in
+    rw (c .first-short .ensures, s .pre .1, c .before .required .ensures, zone-tests (caseOf (s .args .b .now)) (certificateOf (s .args .q .now)) (s .args .r) (s .args .zone) (resources-is (s .pre .0 .0 .prices .case-bytes)))
+    (first-false (rowMet (caseOf (s .args .b .now)) (certificateOf (s .args .q .now))) RowBroken (s .args .first) (map (Zone (s .args .zone)) curves) (s .pre .0 .1 .1 .from))
 
 pub zone-short-spec : {M : Type 1} → statement M
 zone-short-spec =
     tie.close
     (tie.spec
-    (λ c κs. search needs)
     required-requires
     (λ c κs. search needs)
     returns)

@@ -1,0 +1,112 @@
+-- `reserves::totals` meets its contract.
+-- The loop's invariant: the market's and the zones' totals are those of the resources passed; the measure is the resources to go.
+use mathlib.Core.Path.{_≡_, ap, _∙_}
+use Prim.Native.Nat.{_-_, _≤_}
+use native.Mathlib.Omega.{arith}
+use Rattle.arith.specs.Sums.{sumOf, upto}
+use Rattle.market.specs.Case.{Resource}
+use Rattle.market.specs.CaseFile.{caseOf}
+use Rattle.market.specs.Certificate.{certificateOf}
+use Rattle.market.specs.InWords.{reserveOf}
+use Rattle.records.proofs.Places.{resource-in, resource-is}
+use Rattle.reserves.specs.Given.{marketTotal, zoneTotals}
+use Rattle.reserves.proofs.Known.{given-small}
+use Rattle.reserves.proofs.Sums.{sums-more, sums-room}
+use Rattle.reserves.proofs.Zones.{zone-from-one, zone-of-eight, zone-room, zones-more}
+use borrow.Author.Needs.{needs}
+use Rattle.reserves.proofs.totals.Statement.{statement}
+use Rattle.reserves.proofs.totals.Tie as tie
+
+abbrev Inv-loop : tie.InvT-loop
+Inv-loop b q r z f market₀ zones₀ i₀ market zones i = (i ≤ r) × (market ≡ marketTotal b q i) × (zones ≡ zoneTotals b q i)
+
+abbrev μ-loop : tie.MeasureT-loop
+μ-loop b q r z f market₀ zones₀ i₀ market zones i = r - i
+
+loop-holds : tie.Need-loop-holds Inv-loop μ-loop
+unfolding sumOf upto
+loop-holds c = (omega arith, c .nothing .ensures, rw (c .nothing .ensures))
+
+reserve-given-requires : tie.Need-reserve-given-requires Inv-loop μ-loop
+reserve-given-requires c κs = let s = c .before .before .before .before .before in (s .pre, omega arith)
+
+amounts-sum-requires : tie.Need-amounts-sum-requires Inv-loop μ-loop
+amounts-sum-requires c κs =
+    let s = c .before .before .before .before .before .before in
+    rw (c .before .before .loop .inv .1, c .reserve-given .ensures)
+    (sums-room (λ k. reserveOf (caseOf (s .args .b .now)) (certificateOf (s .args .q .now) .amount) k) (s .args .r) (s .pre .prices .case-bytes .most-resources) (given-small (s .pre)) (c .before .before .loop .i) (omega arith))
+
+resource-zone-requires : tie.Need-resource-zone-requires Inv-loop μ-loop
+resource-zone-requires c κs =
+    let s = c .before .before .before .before .before .before .before in
+    resource-in (s .pre .prices .case-bytes) (c .before .before .before .loop .i) (omega arith)
+
+-- the zone that is read is the case's
+zone-is : (c : tie.After-resource-zone Inv-loop μ-loop) →
+    let s = c .before .before .before .before .before .before .before .before in
+    c .resource-zone .result ≡ caseOf (s .args .b .now) .resource (c .before .before .before .before .loop .i) .zone
+zone-is c =
+    let s = c .before .before .before .before .before .before .before .before in
+    c .resource-zone .ensures ∙ ap (λ (v : Resource). v .zone) (resource-is (s .pre .prices .case-bytes) (c .before .before .before .before .loop .i))
+
+sub-zone : tie.Need-sub-zone Inv-loop μ-loop
+sub-zone c =
+    let s = c .before .before .before .before .before .before .before .before in
+    zone-from-one (s .pre) (c .before .before .before .before .loop .i) _ (omega arith) (zone-is c)
+
+in-array : tie.Need-array-copy-out-amounts-sum Inv-loop μ-loop
+in-array c =
+    let s = c .before .before .before .before .before .before .before .before in
+    zone-of-eight (s .pre) (c .before .before .before .before .loop .i) _ (omega arith) (zone-is c)
+
+amounts-sum-requires-2 : tie.Need-amounts-sum-requires-2 Inv-loop μ-loop
+amounts-sum-requires-2 c κs =
+    let s = c .before .before .before .before .before .before .before .before .before in
+    let l = c .before .before .before .before .before .loop in
+    rw (l .inv .2, c .before .before .before .reserve-given .ensures) (zone-room (s .pre) (l .i) (c .before .resource-zone .result) (omega arith) (zone-is (c .before)) _)
+
+array-set-from-zones : tie.Need-array-set-from-zones Inv-loop μ-loop
+array-set-from-zones c = in-array (c .before .before)
+
+add-i : tie.Need-add-i Inv-loop μ-loop
+add-i c = let s = c .before .before .before .before .before .before .before .before .before .before in omega (arith, s .pre .prices .case-bytes .most-resources)
+
+loop-again : tie.Need-loop-again Inv-loop μ-loop
+loop-again c =
+    let s = c .before .before .before .before .before .before .before .before .before .before in
+    let l = c .before .before .before .before .before .before .loop in
+    let own = c .before .before .before .before .reserve-given .ensures in (
+      omega arith,
+      c .before .before .before .amounts-sum .ensures ∙ rw (l .inv .1, own) (sums-more (λ k. reserveOf (caseOf (s .args .b .now)) (certificateOf (s .args .q .now) .amount) k) (l .i)),
+      rw (c .amounts-sum2 .ensures, l .inv .2, own) (zones-more (s .pre) (l .i) (c .before .before .resource-zone .result) (omega arith) (zone-is (c .before .before)) _),
+    )
+
+returns : tie.Need-returns Inv-loop μ-loop
+returns c =
+    let s = c .before .before .before .before .before in
+    let l = c .before .loop in
+    let e : l .i ≡ s .args .r = omega arith in
+    rw (← e) (λ j. record { market = (l .inv .1) j; zones = (l .inv .2) j })
+
+pub totals-spec : {M : Type 1} → statement M
+totals-spec =
+    tie.close
+    (tie.spec
+    Inv-loop
+    μ-loop
+    (λ c κs. search needs)
+    loop-holds
+    reserve-given-requires
+    amounts-sum-requires
+    resource-zone-requires
+    (λ c. search needs)
+    sub-zone
+    (λ c. search needs)
+    in-array
+    amounts-sum-requires-2
+    (λ c. search needs)
+    array-set-from-zones
+    add-i
+    (λ c. search needs)
+    loop-again
+    returns)
