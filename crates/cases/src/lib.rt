@@ -3,6 +3,7 @@
 use market::CaseAnswer;
 use market::Counts;
 use market::Refusal;
+use market::Transfer;
 ghost use mathlib.Core.Path.{_≡_};
 ghost use Prim.Native.Nat.{_+_, _*_, _<_, _≤_};
 ghost use lib.Dec.{leb, eqb};
@@ -20,7 +21,7 @@ ghost use Rattle.market.specs.Refusals.{firstOf};
 ghost use Rattle.market.specs.Outcome.{caseGrounds, caseAnswer};
 ghost use Rattle.wire.specs.Within.{Within};
 ghost use Rattle.wire.specs.CaseBytes.{CaseBytes};
-ghost use Rattle.cases.specs.Stages.{stageOf, shapeOf, Shaped, Staged, answerAfter};
+ghost use Rattle.cases.specs.Stages.{stageOf, shapeOf, Shaped, Staged, answerAfter, transferAfter};
 ghost use Rattle.cases.specs.Pieces.{offerStarts, offerFollows, offerRight, curveStarts, curveFollows, curveRight, limitsRight};
 
 // What the stages so far have found: the counts of a file that has passed them, or the first ground that holds.
@@ -385,6 +386,16 @@ fn turned_away(answer: Stage) -> CaseAnswer
     match answer {
         Stage::Passed(_) => CaseAnswer::Valid,
         Stage::Refused(why) => CaseAnswer::Refused(why),
+    }
+}
+
+// For the readings and writings of files.
+pub fn transfer_refused(answer: Stage) -> Transfer
+    ensures { λ r. ⌜ r ≡ transferAfter answer ⌝ }
+{
+    match answer {
+        Stage::Passed(_) => Transfer::Written(0),
+        Stage::Refused(why) => Transfer::Refused(why),
     }
 }
 

@@ -89,7 +89,7 @@ pub fn offer_steps_at(
 }
 
 // The zone of resource i alone, counted from 1.
-pub fn home_of<'a>(r: CaseReader<'a>, i: usize) -> u8
+pub fn resource_zone_of<'a>(r: CaseReader<'a>, i: usize) -> u8
     requires { ⌜ ResourceIn (now (r .bytes)) (r .zones) i ⌝ }
     ensures { λ v. ⌜ v ≡ resourceAt (now (r .entry .bytes)) (resourcePlace (r .entry .zones) i) .zone ⌝ }
 {
@@ -100,7 +100,7 @@ pub fn resource_zone(b: &[u8], resources: usize, zones: usize, flowgates: usize,
     requires { ⌜ ResourceIn (now b) zones i ⌝ }
     ensures { λ v. ⌜ v ≡ resourceAt (now (b .entry)) (resourcePlace zones i) .zone ⌝ }
 {
-    home_of(new(b, resources, zones, flowgates), i)
+    resource_zone_of(new(b, resources, zones, flowgates), i)
 }
 
 // ---- flowgates, counted from 0

@@ -13,7 +13,6 @@ use Rattle.market.specs.Outcome.{caseGrounds, room}
 use Rattle.market.specs.Numbers.{numbersOf, certificateFileGrounds}
 use Rattle.market.specs.RoundTrips.{AreBytes}
 use Rattle.cases.specs.declared.Stage.{Stage}
-use Rattle.cases.specs.declared.Stage.the-variants as S
 use Rattle.fields.specs.declared.File.{File}
 use Rattle.fields.specs.declared.File.the-variants.{Case, Certificate}
 use Rattle.fields.specs.Layout.{fieldsOf}
@@ -36,11 +35,6 @@ readFile file b n = transferOf (length (numbersOf (fieldsOf file) b)) (firstOf (
 
 unfoldable pub readFileBuffer : File → List ℕ → List ℤ → List ℤ
 readFileBuffer file b old = bufferAfter (firstOf (groundsWith15 file b (length old))) (numbersOf (fieldsOf file) b) old
-
--- the answer to a file that was refused; it is not asked of one that has passed
-abbrev pub refusedAfter : Stage → Transfer
-refusedAfter (S.Passed n) = W.Written 0
-refusedAfter (S.Refused w) = W.Refused w
 
 -- The n numbers that were read from the bytes b, as they stand in the buffer, are written back as b: by a writing, given as
 -- its answer and the lent bytes afterwards, into any bytes that are enough.

@@ -13,7 +13,7 @@ ghost use Rattle.market.specs.Numbers.{numbersAt, certificateFileGrounds, readC
 ghost use Rattle.cases.specs.Stages.{stageOf};
 ghost use Rattle.fields.specs.Layout.{fieldsOf};
 ghost use Rattle.readings.specs.FileBytes.{FileBytes};
-ghost use Rattle.readings.specs.Reading.{countsOf, groundsOf, refusedAfter, readFile, readFileBuffer, WrittenBack};
+ghost use Rattle.readings.specs.Reading.{countsOf, groundsOf, readFile, readFileBuffer, WrittenBack};
 
 // 8, 9, 3, 11: no case is lent.
 fn certificate_stage(q: &[u8]) -> Stage
@@ -60,23 +60,13 @@ fn read_numbers(
     }
 }
 
-// The answer to a file that was refused.
-fn turned_away(stage: Stage) -> Transfer
-    ensures { λ r. ⌜ r ≡ refusedAfter stage ⌝ }
-{
-    match stage {
-        Stage::Passed(_) => Transfer::Written(0),
-        Stage::Refused(why) => Transfer::Refused(why),
-    }
-}
-
 // 15, then the numbers of a file that has passed the other grounds.
 fn hand_over(file: File, b: &[u8], stage: Stage, out: &mut [i64]) -> Transfer
     requires { ⌜ stage ≡ stageOf (countsOf (now b)) (firstOf (groundsOf file (now b))) ⌝ }
     ensures { λ r. ⌜ (r ≡ readFile file (now (b .entry)) (length (now (out .entry)))) × (now (out .exit) ≡ readFileBuffer file (now (b .entry)) (now (out .entry))) ⌝ }
 {
     let Stage::Passed(n) = stage else {
-        return turned_away(stage);
+        return cases::transfer_refused(stage);
     };
     let resources = n.resources;
     let zones = n.zones;

@@ -12,7 +12,6 @@ use Rattle.market.specs.Outcome.{room}
 use Rattle.market.specs.Numbers.{fieldWidth, countIn, fieldGrounds, fileFor, listGrounds}
 use Rattle.market.specs.declared.Transfer.the-variants as W
 use Rattle.cases.specs.declared.Stage.{Stage}
-use Rattle.cases.specs.declared.Stage.the-variants as S
 use Rattle.fields.specs.declared.File.{File}
 use Rattle.fields.specs.declared.File.the-variants.{Case, Certificate}
 use Rattle.fields.specs.Layout.{fieldsOf}
@@ -47,11 +46,6 @@ writeFile file vs n = transferOf (length (fileOfList file vs)) (firstOf (grounds
 
 unfoldable pub writeFileBuffer : File → List ℤ → List ℕ → List ℕ
 writeFileBuffer file vs old = bufferAfter (firstOf (groundsWith15 file vs (length old))) (fileOfList file vs) old
-
--- the answer to numbers that were refused
-abbrev pub refusedAfter : Stage → Transfer
-refusedAfter (S.Passed n) = W.Written 0
-refusedAfter (S.Refused w) = W.Refused w
 
 -- The n bytes that were written from the numbers vs, as they stand in the buffer, are read back as vs: by a reading, given as
 -- its answer and the lent numbers afterwards, into any numbers that are enough.

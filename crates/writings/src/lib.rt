@@ -20,7 +20,7 @@ ghost use Rattle.cases.specs.Stages.{stageOf};
 ghost use Rattle.fields.specs.declared.File.the-variants.{Case};
 ghost use Rattle.fields.specs.Layout.{fieldOf, fieldsOf};
 ghost use Rattle.writings.specs.Listed.{Fits, Listed};
-ghost use Rattle.writings.specs.Writing.{countsOf, sizeOf, groundsOf, writeFile, writeFileBuffer, refusedAfter, ReadBack};
+ghost use Rattle.writings.specs.Writing.{countsOf, sizeOf, groundsOf, writeFile, writeFileBuffer, ReadBack};
 
 // ---- the bytes of a file
 // A number into its field; the other bytes stay as they are.
@@ -184,23 +184,13 @@ fn case_stage(v: &[i64]) -> Stage
 }
 
 // ---- the operations
-// The answer to numbers that were refused.
-fn turned_away(stage: Stage) -> Transfer
-    ensures { λ r. ⌜ r ≡ refusedAfter stage ⌝ }
-{
-    match stage {
-        Stage::Passed(_) => Transfer::Written(0),
-        Stage::Refused(why) => Transfer::Refused(why),
-    }
-}
-
 // 15, then the file of numbers that have passed the other grounds.
 fn hand_over(file: File, v: &[i64], stage: Stage, out: &mut [u8]) -> Transfer
     requires { ⌜ stage ≡ stageOf (countsOf (now v)) (firstOf (groundsOf file (now v))) ⌝ }
     ensures { λ r. ⌜ (r ≡ writeFile file (now (v .entry)) (length (now (out .entry)))) × (now (out .exit) ≡ writeFileBuffer file (now (v .entry)) (now (out .entry))) ⌝ }
 {
     let Stage::Passed(n) = stage else {
-        return turned_away(stage);
+        return cases::transfer_refused(stage);
     };
     let resources = n.resources;
     let zones = n.zones;

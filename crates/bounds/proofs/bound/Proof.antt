@@ -1,5 +1,5 @@
 -- `bounds::bound` meets its contract. Assumes nothing.
-use mathlib.Core.Path.{_≡_, _∙_, ap}
+use mathlib.Core.Path.{_∙_, ap}
 use Rattle.market.specs.Bound.{bound}
 use Rattle.market.specs.Records.{grains}
 use Rattle.bounds.proofs.PricedTerms.{bound-is}

@@ -1,5 +1,4 @@
 -- `limits::reserve_bounds` meets its contract: reserve by reserve. Assumes nothing.
-use mathlib.Core.Path.{_≡_}
 use borrow.Author.Needs.{needs}
 use Rattle.limits.specs.Together.{reserveBoundsOf}
 use Rattle.limits.proofs.Products.{regulating-terms-are, contingency-terms-are, short-term-terms-are}

@@ -1,4 +1,4 @@
--- `readers::resource_zone` meets its contract: a walk of its MIR, by hand. A `CaseReader` that `new` returns is held in a local and passed to `home_of`. All that the proof knows of the two is that each meets its contract.
+-- `readers::resource_zone` meets its contract: a walk of its MIR, by hand. A `CaseReader` that `new` returns is held in a local and passed to `resource_zone_of`. All that the proof knows of the two is that each meets its contract.
 -- In a local of a body MIR erases the lifetime of the struct's type, so the value is shown to have the type at `erased`.
 -- Assumes nothing.
 use contract.Running.{tablesOf}
@@ -13,10 +13,10 @@ use Rattle.readers.proofs.new as new
 use Rattle.readers.proofs.new.Symbol as new-def
 use Rattle.readers.proofs.new.Symbol.{name as #new}
 use Rattle.readers.proofs.new.Met as new-thm
-use Rattle.readers.proofs.home_of as thin
-use Rattle.readers.proofs.home_of.Symbol as thin-def
-use Rattle.readers.proofs.home_of.Symbol.{name as #thin}
-use Rattle.readers.proofs.home_of.Met as thin-thm
+use Rattle.readers.proofs.resource_zone_of as thin
+use Rattle.readers.proofs.resource_zone_of.Symbol as thin-def
+use Rattle.readers.proofs.resource_zone_of.Symbol.{name as #thin}
+use Rattle.readers.proofs.resource_zone_of.Met as thin-thm
 use Rattle.readers.proofs.resource_zone.Key.{name as #key}
 use Rattle.readers.proofs.resource_zone as this
 use Rattle.readers.proofs.resource_zone.Statement as stated
@@ -78,7 +78,7 @@ module _ {M : Type 1} (𝓤 : URA M) (H : Heap 𝓤) (A : Atoms 𝓤) (W : Given
   new-said : (r : CaseReader) → ent 𝓤 (ensured 𝓤 H A new.ended (new.clauses 𝓤 H A mem run) (κ, tt) (s, (resources, (zones, (flowgates, tt)))) tt r) (fact 𝓤 (r ≡ made))
   new-said r = exE 𝓤 _ (λ ws. snd∗ 𝓤 (sem 𝓤 H A (lasts new.ended (κ, tt) (s, (resources, (zones, (flowgates, tt)))) ws)) (fact 𝓤 (r ≡ made)))
 
-  -- the call of `home_of`, at the struct r with the machine value u
+  -- the call of `resource_zone_of`, at the struct r with the machine value u
   abbrev to-thin : CaseReader → Val → Thin 𝓤 H A mem run .Ghost
   to-thin r u = (((κ, tt), (q, tt), tt, (r, (i, tt)), (u ∷ [], (vint w64 i ∷ [], tt))), tt)
 
@@ -136,4 +136,4 @@ resource-zone-spec 𝓤 H 𝓜 𝓖 𝓡 =
     (tables 𝓤 H 𝓜 𝓡 code.env .C) (tables 𝓤 H 𝓜 𝓡 code.env .Λ) #key code.function (code.unfolded 𝓤 H 𝓜 𝓡)
     (meets 𝓤 H (𝓖 .A) (givenOf 𝓤 H 𝓜 𝓖) (𝓜 .mem) (𝓡 .run) (tablesOf 𝓤 H 𝓜 (tables 𝓤 H 𝓜 𝓡 code.env))
     (cited 𝓤 H (New 𝓤 H (𝓖 .A) (𝓜 .mem) (𝓡 .run)) 𝓜 𝓡 code.env #new new-def.routine code.calls-readers·new (new-thm.met 𝓤 H 𝓜 𝓖 𝓡))
-    (cited 𝓤 H (Thin 𝓤 H (𝓖 .A) (𝓜 .mem) (𝓡 .run)) 𝓜 𝓡 code.env #thin thin-def.routine code.calls-readers·home-of (thin-thm.met 𝓤 H 𝓜 𝓖 𝓡)))
+    (cited 𝓤 H (Thin 𝓤 H (𝓖 .A) (𝓜 .mem) (𝓡 .run)) 𝓜 𝓡 code.env #thin thin-def.routine code.calls-readers·resource-zone-of (thin-thm.met 𝓤 H 𝓜 𝓖 𝓡)))

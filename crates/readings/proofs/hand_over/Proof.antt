@@ -1,9 +1,9 @@
 -- `readings::hand_over` meets its contract. Assumes nothing.
-use Rattle.readings.specs.Reading.{refusedAfter, countsOf, groundsOf}
+use Rattle.readings.specs.Reading.{countsOf, groundsOf}
 use mathlib.Core.Path.{ap, _≡_, _∙_}
 use Rattle.readings.proofs.Handed.{count-small, read-refused, read-short, read-whole}
 use Rattle.readings.proofs.Stages.{Past, passed, refused}
-use Rattle.cases.specs.Stages.{stageOf}
+use Rattle.cases.specs.Stages.{stageOf, transferAfter}
 use Rattle.cases.specs.declared.Stage.the-variants.{Passed, Refused}
 use Rattle.market.specs.Refusals.{firstOf}
 use Rattle.market.specs.declared.Counts.{Counts}
@@ -27,7 +27,7 @@ returns c = let s = c .before .before .before .before in let w = c .before .enum
     let h : s .args .stage ≡ Refused w = cc in
     let g : stageOf (countsOf (s .args .b .now)) (firstOf (groundsOf (s .args .file) (s .args .b .now))) ≡ Refused w = cc in
     let r = read-refused (s .args .file) (s .args .b .now) (s .args .out .now) w (refused (s .args .file) (s .args .b .now) w g) in
-    (c .turned-away .ensures ∙ ap refusedAfter h ∙ r .0, r .1)
+    (c .transfer-refused .ensures ∙ ap transferAfter h ∙ r .0, r .1)
 
 count-requires : tie.Need-count-requires
 count-requires c κs = let p = pass c .2 in (p .most-resources, p .most-zones, p .most-flowgates)

@@ -5,11 +5,11 @@ use borrow.Author.Needs.{needs}
 use Rattle.market.specs.declared.Counts.{Counts}
 use Rattle.market.specs.Refusals.{clear, firstOf}
 use Rattle.cases.specs.declared.Stage.the-variants.{Passed, Refused}
-use Rattle.cases.specs.Stages.{stageOf}
+use Rattle.cases.specs.Stages.{stageOf, transferAfter}
 use Rattle.writings.proofs.Stages.{passed, refused}
 use Rattle.writings.proofs.Handed.{write-refused, write-short, write-whole}
 use Rattle.writings.specs.Listed.{Listed}
-use Rattle.writings.specs.Writing.{refusedAfter, countsOf, groundsOf}
+use Rattle.writings.specs.Writing.{countsOf, groundsOf}
 use Rattle.writings.proofs.hand_over.Statement.{statement}
 use Rattle.writings.proofs.hand_over.Tie as tie
 
@@ -28,7 +28,7 @@ returns c = let s = c .before .before .before .before in let w = c .before .enum
     let h : s .args .stage ≡ Refused w = cc in
     let g : stageOf (countsOf (s .args .v .now)) (firstOf (groundsOf (s .args .file) (s .args .v .now))) ≡ Refused w = cc in
     let r = write-refused (s .args .file) (s .args .v .now) (s .args .out .now) w (refused (s .args .file) (s .args .v .now) w g) in
-    (c .turned-away .ensures ∙ ap refusedAfter h ∙ r .0, r .1)
+    (c .transfer-refused .ensures ∙ ap transferAfter h ∙ r .0, r .1)
 
 file-size-requires : tie.Need-file-size-requires
 file-size-requires c κs = let p = pass c .1 in (p .most-resources, p .most-zones, p .most-flowgates)

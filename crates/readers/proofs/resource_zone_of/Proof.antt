@@ -1,4 +1,4 @@
--- `readers::home_of` meets its contract: a walk of its MIR, by hand. The struct is taken apart, and `records::resource_zone` is called on the slice and the numbers. All that the proof knows of `records::resource_zone` is that it meets its contract.
+-- `readers::resource_zone_of` meets its contract: a walk of its MIR, by hand. The struct is taken apart, and `records::resource_zone` is called on the slice and the numbers. All that the proof knows of `records::resource_zone` is that it meets its contract.
 -- The struct is Copy: what it owns is had twice, one copy is kept whole for the exit, and of the other what the slice owns goes to the callee, beside the lifetime's token, which comes back.
 -- Assumes nothing.
 use contract.Running.{tablesOf}
@@ -13,10 +13,10 @@ use Rattle.records.proofs.resource_zone as step
 use Rattle.records.proofs.resource_zone.Symbol as step-def
 use Rattle.records.proofs.resource_zone.Symbol.{name as #step}
 use Rattle.records.proofs.resource_zone.Met as step-thm
-use Rattle.readers.proofs.home_of.Key.{name as #key}
-use Rattle.readers.proofs.home_of as this
-use Rattle.readers.proofs.home_of.Statement as stated
-use Rattle.readers.proofs.home_of.Code as code
+use Rattle.readers.proofs.resource_zone_of.Key.{name as #key}
+use Rattle.readers.proofs.resource_zone_of as this
+use Rattle.readers.proofs.resource_zone_of.Statement as stated
+use Rattle.readers.proofs.resource_zone_of.Code as code
 
 -- the struct's type, over the signature's lifetimes
 abbrev B : Lfts 1 → RattleType
@@ -119,9 +119,9 @@ meets : {M : Type 1} (𝓤 : URA M) (H : Heap 𝓤) (A : Atoms 𝓤) (W : Given 
 meets 𝓤 H A W mem run 𝓣 known = walk-meets 𝓤 H A this.ended stayed W (goes-none 𝓤 H A W 1 B yes (λ κs x f. refl), (goes-none 𝓤 H A W 1 (λ _. usize) yes (λ κs x f. refl), tt)) (this.clauses 𝓤 H A mem run) (WpFn 𝓤 H (𝓣 .C) (𝓣 .Λ) code.function) (WpFn-mono 𝓤 H (W .laws) 𝓣 code.function)
     (walks 𝓤 H A W mem run (𝓣 .C) (𝓣 .Λ) (fmOf 𝓤 H (W .laws) 𝓣) known)
 
-pub home-of-spec : {M : Type 1} → stated.statement M
+pub resource-zone-of-spec : {M : Type 1} → stated.statement M
 unfolding code.routine tablesOf
-home-of-spec 𝓤 H 𝓜 𝓖 𝓡 =
+resource-zone-of-spec 𝓤 H 𝓜 𝓖 𝓡 =
     entered 𝓤 H (tripleOf 𝓤 H (𝓖 .A) this.signature (this.spec 𝓤 H (𝓖 .A) (𝓜 .mem) (𝓡 .run)))
     (tables 𝓤 H 𝓜 𝓡 code.env .C) (tables 𝓤 H 𝓜 𝓡 code.env .Λ) #key code.function (code.unfolded 𝓤 H 𝓜 𝓡)
     (meets 𝓤 H (𝓖 .A) (givenOf 𝓤 H 𝓜 𝓖) (𝓜 .mem) (𝓡 .run) (tablesOf 𝓤 H 𝓜 (tables 𝓤 H 𝓜 𝓡 code.env))
