@@ -1,15 +1,20 @@
 -- `costs::fill` meets its contract.
 use mathlib.Core.Path.{ap, _∙_}
+use Prim.Native.Nat.{_≤_}
 use native.Mathlib.Omega.{arith}
+use lib.IntN.{natAbs}
 use Rattle.market.specs.Records.{kw}
 use Rattle.market.specs.declared.Kw.{Kw}
-use Rattle.costs.specs.Steps.{fillingOf}
+use Rattle.costs.specs.Steps.{mostInSteps, fillingOf}
 use Rattle.costs.proofs.Filling.{left-after}
 use Rattle.costs.proofs.fill.Statement.{statement}
 use Rattle.costs.proofs.fill.Tie as tie
 
 kw-difference-requires : tie.Need-kw-difference-requires
-kw-difference-requires c κs = rw (c .lesser .ensures) (omega (arith, c .before .pre .0 .at-most, c .before .pre .1 .at-most))
+kw-difference-requires c κs =
+    let h = c .before .pre in
+    let small : natAbs (c .lesser .result .0) ≤ mostInSteps = rw (c .lesser .ensures) (omega (arith, h .0 .at-most)) in
+    omega (arith, h .0 .at-most, h .1 .at-most, small)
 
 returns : tie.Need-returns
 unfolding fillingOf
