@@ -242,8 +242,8 @@ fn least_terms(
     requires { ⌜ (PricesStand (now b) (now q) r z f × (i < r)) × (resource ≡ recordOf (caseOf (now b) .resource i)) ⌝ }
     ensures { λ g. ⌜ Figure g (leastTerms (now (b .entry)) (now (q .entry)) i) mostLeastTerms ⌝ }
 {
-    let prices = nets::nets_for(b, q, r, z, f, i, resource);
     let on = limits::on_line(resource);
+    let prices = nets::nets_for(b, q, r, z, f, i, on, resource);
     let uppers = reserve_bounds(b, on, resource);
     let steps = steps_least(prices, on, readers::offer_steps_at(b, r, z, f, i));
     let reserves = reserves_least(prices, uppers);

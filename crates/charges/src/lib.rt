@@ -101,10 +101,10 @@ fn write_resource(b: &[u8], q: &[u8], r: usize, z: usize, f: usize, i: usize, ou
     requires { ⌜ (Standing (now b) (now q) r z f × (i < r)) × (14 ≤ length (now out)) ⌝ }
     ensures { λ _. ⌜ now (out .exit) ≡ resourceCharges (now (b .entry)) (now (q .entry)) i ++ drop 14 (now (out .entry)) ⌝ }
 {
-    let prices = nets::nets_at(b, q, r, z, f, i);
     let resource = readers::resource_at(b, r, z, f, i);
     let amounts = entries::amounts_at(q, r, z, f, i);
     let on = limits::on_line(resource);
+    let prices = nets::nets_for(b, q, r, z, f, i, on, resource);
     let uppers = bounds::reserve_bounds(b, on, resource);
     let steps = readers::offer_steps_at(b, r, z, f, i);
     write_steps(prices, on, steps, amounts.energy, out);

@@ -4,6 +4,7 @@ ghost use mathlib.Core.Path.{_≡_};
 ghost use mathlib.Core.Bool.{cond};
 ghost use Prim.Native.Nat.{_+_, _*_, _<_};
 ghost use lib.IntN.{natAbs, pos, _+ℤ_, _-ℤ_, _*ℤ_};
+ghost use Rattle.market.specs.Availability.{onLine};
 ghost use Rattle.market.specs.Case.{Resource as Figures};
 ghost use Rattle.market.specs.CaseFile.{caseOf};
 ghost use Rattle.market.specs.Certificate.{certificateOf};
@@ -129,18 +130,18 @@ fn nets_of(
     }
 }
 
-// Its contingency reserve is spinning: it is on-line and has flag 2.
-fn spinning(r: Resource) -> bool
-    ensures { λ t. ⌜ ((s : Figures) → r ≡ recordOf s → t ≡ isSpinning s) ⌝ }
+// Its contingency reserve is spinning: it is on-line, `on`, and has flag 2.
+fn spinning(on: bool, r: Resource) -> bool
+    ensures { λ t. ⌜ ((s : Figures) → on ≡ onLine s → r ≡ recordOf s → t ≡ isSpinning s) ⌝ }
 {
-    if !limits::on_line(r) {
+    if !on {
         return false;
     }
     let flags = r.state.flags;
     flags.spinning()
 }
 
-// The net prices of resource i, whose record has been read.
+// The net prices of resource i, whose record has been read; `on` is whether it is on-line.
 pub fn nets_for(
     b: &[u8],
     q: &[u8],
@@ -148,25 +149,17 @@ pub fn nets_for(
     z: usize,
     f: usize,
     i: usize,
+    on: bool,
     resource: Resource,
 ) -> Nets
-    requires { ⌜ (PricesStand (now b) (now q) r z f × (i < r)) × (resource ≡ recordOf (caseOf (now b) .resource i)) ⌝ }
+    requires { ⌜ (PricesStand (now b) (now q) r z f × (i < r)) × ((on ≡ onLine (caseOf (now b) .resource i)) × (resource ≡ recordOf (caseOf (now b) .resource i))) ⌝ }
     ensures { λ n. ⌜ n ≡ netsOf (caseOf (now (b .entry))) (certificateOf (now (q .entry)) .price) i ⌝ }
 {
     let state = resource.state;
     let zone = state.zone as usize - 1;
-    let spins = spinning(resource);
+    let spins = spinning(on, resource);
     let own = entries::limit_prices_at(q, r, z, f, i);
     let lmp = prices::lmp(b, q, r, z, f, i);
     let prices = prices::zone_prices(b, q, r, z, f, zone);
     nets_of(resource.offers, spins, own, lmp, prices)
-}
-
-// Of resource i.
-pub fn nets_at(b: &[u8], q: &[u8], r: usize, z: usize, f: usize, i: usize) -> Nets
-    requires { ⌜ PricesStand (now b) (now q) r z f × (i < r) ⌝ }
-    ensures { λ n. ⌜ n ≡ netsOf (caseOf (now (b .entry))) (certificateOf (now (q .entry)) .price) i ⌝ }
-{
-    let resource = readers::resource_at(b, r, z, f, i);
-    nets_for(b, q, r, z, f, i, resource)
 }

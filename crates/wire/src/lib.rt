@@ -78,13 +78,27 @@ pub fn u32_at(b: &[u8], at: usize) -> u32
 
 // Two's complement: moved on by half the range and back again, with no test of the sign.
 
+fn signed_16(n: u32) -> i64
+    requires { ⌜ n < 65536 ⌝ }
+    ensures { λ v. ⌜ v ≡ signed 32768 n ⌝ }
+{
+    let moved = (n + 32768) % 65536;
+    moved as i64 - 32768
+}
+
+fn signed_32(n: u32) -> i64
+    ensures { λ v. ⌜ v ≡ signed 2147483648 n ⌝ }
+{
+    let moved = std::num::wrapping_add_u32(n, 2147483648);
+    moved as i64 - 2147483648
+}
+
 pub fn i16_at(b: &[u8], at: usize) -> i64
     requires { ⌜ Within (now b) at 2 ⌝ }
     ensures { λ r. ⌜ r ≡ i16At (now (b .entry)) at ⌝ }
 {
     let n = u16_at(b, at);
-    let moved = (n + 32768) % 65536;
-    moved as i64 - 32768
+    signed_16(n)
 }
 
 pub fn i32_at(b: &[u8], at: usize) -> i64
@@ -92,8 +106,7 @@ pub fn i32_at(b: &[u8], at: usize) -> i64
     ensures { λ r. ⌜ r ≡ i32At (now (b .entry)) at ⌝ }
 {
     let n = u32_at(b, at);
-    let moved = std::num::wrapping_add_u32(n, 2147483648);
-    moved as i64 - 2147483648
+    signed_32(n)
 }
 
 // ---- into a slice: the other bytes stay as they are

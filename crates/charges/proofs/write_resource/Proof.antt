@@ -20,9 +20,9 @@ use Rattle.charges.proofs.write_resource.Tie as tie
 
 -- the record that is read is the case's
 resource : (c : tie.After-resource-at) →
-    let s = c .before .before .before .before in
+    let s = c .before .before .before in
     c .resource-at .result ≡ recordOf (caseOf (s .args .b .now) .resource (s .args .i))
-resource c = let s = c .before .before .before .before in record-is (s .pre .0 .0 .prices .case-bytes) (s .args .i) (c .resource-at .ensures)
+resource c = let s = c .before .before .before in record-is (s .pre .0 .0 .prices .case-bytes) (s .args .i) (c .resource-at .ensures)
 
 -- so are the steps
 steps : (c : tie.After-offer-steps-at) →
@@ -37,11 +37,17 @@ room c = let s = c .before .before .before .before .before .before .before .befo
 behind : (c : tie.After-write-steps) → 10 ≤ length (c .write-steps .last .1 .1 .1 .1 .0)
 behind c = omega (arith, room c)
 
+nets-for-requires : tie.Need-nets-for-requires
+nets-for-requires c κs =
+    let s = c .before .before .before .before .before in
+    let e = resource (c .before .before) in
+    ((s .pre .0 .0 .prices, s .pre .0 .1), (c .on-line .ensures _ e, e))
+
 reserve-bounds-requires : tie.Need-reserve-bounds-requires
 reserve-bounds-requires c κs =
     let s = c .before .before .before .before .before .before in
     let p = s .pre .0 .0 .prices in
-    ((head-in (p .case-bytes), p .valid), rw (resource (c .before .before)) (resource-known (s .pre .0 .0) (s .args .i) (s .pre .0 .1)))
+    ((head-in (p .case-bytes), p .valid), rw (resource (c .before .before .before)) (resource-known (s .pre .0 .0) (s .args .i) (s .pre .0 .1)))
 
 offer-steps-at-requires : tie.Need-offer-steps-at-requires
 offer-steps-at-requires c κs =
@@ -55,7 +61,7 @@ write-steps-requires c κs =
     let p = s .pre .0 .0 in
     let l = s .pre .0 .1 in
     let room : 10 ≤ length (s .args .out .now) = omega arith in
-    ((nets-fit p l (c .before .before .before .before .before .before .nets-at .ensures), steps-fit p l (steps (c .before)) (c .before .before .before .before .amounts-at .ensures)), room)
+    ((nets-fit p l (c .before .before .before .nets-for .ensures), steps-fit p l (steps (c .before)) (c .before .before .before .before .before .amounts-at .ensures)), room)
 
 sub-write-reserves : tie.Need-sub-write-reserves
 sub-write-reserves c = behind (c .before)
@@ -68,18 +74,18 @@ write-reserves-requires c κs =
     let s = c .before .before .before .before .before .before .before .before .before .before .before .before in
     let p = s .pre .0 .0 in
     let l = s .pre .0 .1 in (
-      (nets-fit p l (c .before .before .before .before .before .before .before .before .before .nets-at .ensures), (reserves-fit p l (c .before .before .before .before .before .before .before .amounts-at .ensures), bounds-fit p l (c .before .before .before .before .before .reserve-bounds .ensures (caseOf (s .args .b .now) .resource (s .args .i)) (c .before .before .before .before .before .before .on-line .ensures _ (resource (c .before .before .before .before .before .before .before .before))) (resource (c .before .before .before .before .before .before .before .before))))),
+      (nets-fit p l (c .before .before .before .before .before .before .nets-for .ensures), (reserves-fit p l (c .before .before .before .before .before .before .before .before .amounts-at .ensures), bounds-fit p l (c .before .before .before .before .before .reserve-bounds .ensures (caseOf (s .args .b .now) .resource (s .args .i)) (c .before .before .before .before .before .before .before .on-line .ensures _ (resource (c .before .before .before .before .before .before .before .before .before))) (resource (c .before .before .before .before .before .before .before .before .before))))),
       rw (rest-length 10 (c .before .before .write-steps .last .1 .1 .1 .1 .0)) (omega (arith, room (c .before .before))),
     )
 
 returns : tie.Need-returns
 returns c =
     let s = c .before .before .before .before .before .before .before .before .before .before .before .before .before .before in
-    let n = c .before .before .before .before .before .before .before .before .before .before .before .nets-at in
-    let a = c .before .before .before .before .before .before .before .before .before .amounts-at in
-    let on = c .before .before .before .before .before .before .before .before .on-line in
+    let n = c .before .before .before .before .before .before .before .before .nets-for in
+    let a = c .before .before .before .before .before .before .before .before .before .before .amounts-at in
+    let on = c .before .before .before .before .before .before .before .before .before .on-line in
     let u = c .before .before .before .before .before .before .before .reserve-bounds in
-    let ev = resource (c .before .before .before .before .before .before .before .before .before .before) in
+    let ev = resource (c .before .before .before .before .before .before .before .before .before .before .before) in
     let p = c .before .before .before .before .before .before .offer-steps-at .result in
     let ep = steps (c .before .before .before .before .before .before) in
     let w = c .before .before .before .before .write-steps in
@@ -97,7 +103,7 @@ write-resource-spec =
     (λ c κs. search needs)
     (λ c κs. search needs)
     (λ c κs. search needs)
-    (λ c κs. search needs)
+    nets-for-requires
     reserve-bounds-requires
     offer-steps-at-requires
     write-steps-requires

@@ -13,7 +13,7 @@ use Rattle.nets.proofs.nets_for.Tie as tie
 
 -- its zone, and its zone's prices
 zone : (s : tie.Start) → s .args .resource .state .zone ≡ caseOf (s .args .b .now) .resource (s .args .i) .zone
-zone s = zone-is (caseOf (s .args .b .now) .resource (s .args .i)) (s .pre .1)
+zone s = zone-is (caseOf (s .args .b .now) .resource (s .args .i)) (s .pre .1 .1)
 
 zone-prices : (c : tie.After-zone-prices) →
     let s = c .before .before .before .before .before .before .before .before in
@@ -34,7 +34,7 @@ nets-of-requires c κs =
     let h = case-ranges (s .pre .0 .0) in
     let p = prices-in-range (s .pre .0 .0) in
     let n = resource-below (s .pre .0 .0) (s .pre .0 .1) in
-    rw (s .pre .1, c .before .before .limit-prices-at .ensures, c .before .lmp .ensures, zone-prices c)
+    rw (s .pre .1 .1, c .before .before .limit-prices-at .ensures, c .before .lmp .ensures, zone-prices c)
     (offers-small _ _ h p i n, (limit-prices-small _ _ h p i n, (lmp-small _ _ h p i n, zone-prices-small _ _ h p i n)))
 
 returns : tie.Need-returns
@@ -44,7 +44,7 @@ returns c =
     let i = s .args .i in
     let d = c .before in
     c .nets-of .ensures
-    ∙ rw (d .before .before .before .spinning .ensures (caseOf (s .args .b .now) .resource i) (s .pre .1), s .pre .1, d .before .before .limit-prices-at .ensures, d .before .lmp .ensures, zone-prices d)
+    ∙ rw (d .before .before .before .spinning .ensures (caseOf (s .args .b .now) .resource i) (s .pre .1 .0) (s .pre .1 .1), s .pre .1 .1, d .before .before .limit-prices-at .ensures, d .before .lmp .ensures, zone-prices d)
     (nets-are _ _ (case-ranges (s .pre .0 .0)) (prices-in-range (s .pre .0 .0)) i (resource-below (s .pre .0 .0) (s .pre .0 .1)))
 
 pub nets-for-spec : {M : Type 1} → statement M

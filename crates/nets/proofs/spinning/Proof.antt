@@ -5,10 +5,10 @@ use Rattle.nets.proofs.spinning.Statement.{statement}
 use Rattle.nets.proofs.spinning.Tie as tie
 
 returns : tie.Need-returns
-returns c = λ s e. rw (told-false (c .before .on-line .ensures s e) (c .if1 .taken))
+returns c = λ s eo e. rw (told-false eo (c .if1 .taken))
 
 returns-2 : tie.Need-returns-2
-returns-2 c = λ s e. rw (told-true (c .before .before .before .on-line .ensures s e) (c .before .before .if1 .left)) (flags-are s e spinningFlag (c .spinning .ensures))
+returns-2 c = λ s eo e. rw (told-true eo (c .before .before .if1 .left)) (flags-are s e spinningFlag (c .spinning .ensures))
 
 pub spinning-spec : {M : Type 1} → statement M
-spinning-spec = tie.close (tie.spec (λ c κs. search needs) returns (λ c κs. search needs) returns-2)
+spinning-spec = tie.close (tie.spec returns (λ c κs. search needs) returns-2)
