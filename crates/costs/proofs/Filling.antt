@@ -1,13 +1,10 @@
 -- Steps filled one after the other: from x kW on, what is left before step j is x less the widths before it, and what
 -- fills it is `filled w x j`. What the first steps are worth, and how large that can be.
 use mathlib.Core.Path.{_≡_, refl, ap, _∙_}
-use mathlib.Core.Bool.{true, false}
 use Prim.Native.Nat.{ℕ, zero, suc, _+_, _*_, _-_, _<_, _≤_, min}
 use native.Mathlib.Nat.{mul-le-mul}
 use native.Mathlib.Omega.{arith}
 use lib.IntN.{ℤ, pos, natAbs, _-ℤ_, _*ℤ_}
-use lib.Signed.{leZ}
-use borrow.Author.Tests.{leb-true, leb-false}
 use Rattle.arith.proofs.Order.{pos-sub}
 use Rattle.arith.proofs.Magnitudes.{abs-mul}
 use Rattle.arith.proofs.Sums.{upto-size, sum-each-ext}
@@ -28,19 +25,9 @@ use Rattle.costs.specs.Steps.{mostInSteps, fillingOf, widthsOf, stepWort
 
 -- ---- one step: of a kW that are left, into a step b wide
 module _ {a b : ℤ} {m n : ℕ} (left : UpTo a m) (width : UpTo b n) where
-  more-left : leZ b a ≡ true → natAbs b ≤ natAbs a
-  more-left t = leb-true (natAbs b) (natAbs a) (rw (width .natural, left .natural) at t)
-
-  less-left : leZ b a ≡ false → natAbs a < natAbs b
-  less-left t = leb-false (natAbs b) (natAbs a) (rw (width .natural, left .natural) at t)
-
-  -- the step is filled
-  pub whole-step : leZ b a ≡ true → b ≡ pos (min (natAbs b) (natAbs a))
-  whole-step t = width .natural ∙ ap pos (omega (arith, more-left t))
-
-  -- it takes all that is left
-  pub all-left : leZ b a ≡ false → a ≡ pos (min (natAbs b) (natAbs a))
-  all-left t = left .natural ∙ ap pos (omega (arith, less-left t))
+  -- what fills it
+  pub step-part : {part : Kw} → ((m n : ℕ) → kw b ≡ power m → kw a ≡ power n → part ≡ power (min m n)) → part ≡ power (min (natAbs b) (natAbs a))
+  step-part e = e (natAbs b) (natAbs a) (ap kw (width .natural)) (ap kw (left .natural))
 
   -- what is left after it
   pub left-after : {part : ℤ} → part ≡ pos (min (natAbs b) (natAbs a)) → a -ℤ part ≡ pos (natAbs a - natAbs b)

@@ -1,14 +1,14 @@
 // Steps filled in order, and the cost of a certificate's amounts (01, 'Certificate, cost, bound, charges').
 // Amounts at prices in cents are summed as they are; the whole sum is then taken a thousand times, into grains.
 ghost use mathlib.Core.Path.{_≡_};
-ghost use Prim.Native.Nat.{_<_, _≤_, min};
+ghost use Prim.Native.Nat.{_<_, _≤_};
 ghost use lib.IntN.{pos, natAbs, negℤ, _+ℤ_, _*ℤ_};
 ghost use Rattle.arith.specs.Sums.{sumOf, upto};
 ghost use Rattle.market.specs.Case.{curves};
 ghost use Rattle.market.specs.CaseFile.{caseOf};
 ghost use Rattle.market.specs.Certificate.{certificateOf};
 ghost use Rattle.market.specs.Cost.{cost};
-ghost use Rattle.market.specs.Records.{power, grains};
+ghost use Rattle.market.specs.Records.{grains};
 ghost use Rattle.market.specs.Fits.{Fits64};
 ghost use Rattle.records.specs.Ranged.{UpTo, RangedSteps, RangedCurve, RangedOffers, offerStep, curveStep};
 ghost use Rattle.units.specs.Room.{SumRoom, ProductRoom};
@@ -63,22 +63,12 @@ pub struct Filled {
     pub left: Kw,
 }
 
-fn lesser(a: Kw, b: Kw) -> Kw
-    requires { ⌜ UpTo (a .0) mostInSteps × UpTo (b .0) mostInSteps ⌝ }
-    ensures { λ r. ⌜ r ≡ power (min (natAbs (a .0)) (natAbs (b .0))) ⌝ }
-{
-    if units::at_least(b, a) {
-        return a;
-    }
-    b
-}
-
 // Of an amount that is left, into a step of that width.
 pub fn fill(left: Kw, width: Kw) -> Filled
     requires { ⌜ UpTo (left .0) mostInSteps × UpTo (width .0) mostInSteps ⌝ }
     ensures { λ r. ⌜ r ≡ fillingOf (natAbs (left .0)) (natAbs (width .0)) ⌝ }
 {
-    let part = lesser(width, left);
+    let part = limits::lesser(width, left);
     Filled {
         part,
         left: units::kw_difference(left, part),

@@ -55,7 +55,7 @@ fn less(a: Kw, b: Kw) -> Kw
     Kw(x - y)
 }
 
-fn lesser(a: Kw, b: Kw) -> Kw
+pub fn lesser(a: Kw, b: Kw) -> Kw
     ensures { λ r. ⌜ ((m n : ℕ) → a ≡ power m → b ≡ power n → r ≡ power (min m n)) ⌝ }
 {
     if b.0 < a.0 {

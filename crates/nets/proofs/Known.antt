@@ -1,5 +1,5 @@
 -- What is known of the records from which a resource's net prices are made, and what they make.
-use mathlib.Core.Path.{_≡_, refl, ap, _∙_}
+use mathlib.Core.Path.{_≡_, refl, ap}
 use mathlib.Core.Bool.{Bool, true, false, cond}
 use mathlib.Core.List.{List}
 use Prim.Native.Nat.{ℕ, _-_, _<_, _≤_}
@@ -8,7 +8,7 @@ use lib.IntN.{ℤ, pos, _+ℤ_, _-ℤ_, _*ℤ_}
 use Rattle.arith.proofs.Linear.{sorted, count}
 use Rattle.arith.proofs.Magnitudes.{Size, size-add, size-sub}
 use Rattle.market.specs.Case.{Case, Resource}
-use Rattle.market.specs.CaseFile.{caseOf, resourceAt, resourcePlace}
+use Rattle.market.specs.CaseFile.{caseOf}
 use Rattle.market.specs.declared.Resource.{Resource as Record}
 use Rattle.market.specs.UpperBounds.{regulation, contingency, onLineShortTerm, offLineShortTerm}
 use Rattle.market.specs.Rows.{Limited, Limit, maxWithReserve, maxWithShortTerm, minimum, high, low}
@@ -21,7 +21,7 @@ use Rattle.market.specs.Records.{millicents, recordOf, stateOf, reserveOffersOf
 use Rattle.market.proofs.NetPrices.{net-prices-in-words}
 use Rattle.market.proofs.Ranges.{CaseRanges, PriceRanges}
 use Rattle.market.proofs.Sizes.{lmp-size, regulating-size, spinning-size, supplemental-size, short-term-size, net-size}
-use Rattle.records.proofs.Places.{resource-is, zones-is}
+use Rattle.records.proofs.Places.{zones-is}
 use Rattle.prices.specs.Standing.{PricesStand}
 use Rattle.prices.specs.ZonePrices.{zonePricesOf}
 use Rattle.prices.proofs.Known.{case-ranges, prices-in-range, resource-below}
@@ -108,9 +108,6 @@ module _ (c : Case) (y : Prices) (h : CaseRanges c) (p : PriceRanges c y) (i : �
 
 -- ---- of what is read
 module _ {b q : List ℕ} {r z f : ℕ} (s : PricesStand b q r z f) where
-  pub resource-read : (i : ℕ) {x : Record} → x ≡ recordOf (resourceAt b (resourcePlace z i)) → x ≡ recordOf (caseOf b .resource i)
-  resource-read i e = e ∙ ap recordOf (resource-is (s .case-bytes) i)
-
   pub zone-from-one : (i : ℕ) → i < r → 1 ≤ caseOf b .resource i .zone
   zone-from-one i h = case-ranges s .resource i (resource-below s h) .zone-from
 
