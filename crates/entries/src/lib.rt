@@ -101,7 +101,7 @@ pub fn zone_prices_at(q: &[u8], r: usize, z: usize, f: usize, zone: usize) -> Re
     reserve_prices_at(q, 44 + zone * 16)
 }
 
-// The price of row 1, past refusal 12.
+// The price of row 1.
 pub fn balance_price(q: &[u8], r: usize, z: usize, f: usize) -> Millicents
     requires { ⌜ CertificateBytes (now q) r z f ⌝ }
     ensures { λ p. ⌜ p ≡ millicents (certificateOf (now (q .entry)) .price Balance) ⌝ }
