@@ -71,8 +71,7 @@ fn answered(answer: Delivery) -> Answer
 pub extern "C" fn nostwier_prices(c: &[u8], q: &[u8], out: &mut [i64]) -> Answer
     ensures { λ r. ⌜ (r ≡ answerOf (priceAnswer (now (c .entry)) (now (q .entry)) (length (now (out .entry))))) × (now (out .exit) ≡ priceBuffer (now (c .entry)) (now (q .entry)) (now (out .entry))) ⌝ }
 {
-    let answer = outcomes::deliver_prices(c, q, out);
-    answered(answer)
+    answered(outcomes::deliver_prices(c, q, out))
 }
 
 // 21 + 4Z + F + 19R charges, from the buffer's start on; the rest of it, and all of it on a refusal, stays as it was.
@@ -80,8 +79,7 @@ pub extern "C" fn nostwier_prices(c: &[u8], q: &[u8], out: &mut [i64]) -> Answer
 pub extern "C" fn nostwier_charges(c: &[u8], q: &[u8], out: &mut [i64]) -> Answer
     ensures { λ r. ⌜ (r ≡ answerOf (chargeAnswer (now (c .entry)) (now (q .entry)) (length (now (out .entry))))) × (now (out .exit) ≡ chargeBuffer (now (c .entry)) (now (q .entry)) (now (out .entry))) ⌝ }
 {
-    let answer = outcomes::deliver_charges(c, q, out);
-    answered(answer)
+    answered(outcomes::deliver_charges(c, q, out))
 }
 
 // ---- numbers out of files, and into files
@@ -106,8 +104,7 @@ fn counted(answer: Transfer) -> Count
 pub extern "C" fn nostwier_read_case(c: &[u8], out: &mut [i64]) -> Count
     ensures { λ r. ⌜ (r ≡ countOf (readCase (now (c .entry)) (length (now (out .entry))))) × (now (out .exit) ≡ readCaseBuffer (now (c .entry)) (now (out .entry))) ⌝ }
 {
-    let answer = readings::read_case(c, out);
-    counted(answer)
+    counted(readings::read_case(c, out))
 }
 
 // A certificate's numbers.
@@ -115,8 +112,7 @@ pub extern "C" fn nostwier_read_case(c: &[u8], out: &mut [i64]) -> Count
 pub extern "C" fn nostwier_read_certificate(q: &[u8], out: &mut [i64]) -> Count
     ensures { λ r. ⌜ (r ≡ countOf (readCertificate (now (q .entry)) (length (now (out .entry))))) × (now (out .exit) ≡ readCertificateBuffer (now (q .entry)) (now (out .entry))) ⌝ }
 {
-    let answer = readings::read_certificate(q, out);
-    counted(answer)
+    counted(readings::read_certificate(q, out))
 }
 
 // The case whose numbers are v.
@@ -124,8 +120,7 @@ pub extern "C" fn nostwier_read_certificate(q: &[u8], out: &mut [i64]) -> Count
 pub extern "C" fn nostwier_write_case(v: &[i64], out: &mut [u8]) -> Count
     ensures { λ r. ⌜ (r ≡ countOf (writeCase (now (v .entry)) (length (now (out .entry))))) × (now (out .exit) ≡ writeCaseBuffer (now (v .entry)) (now (out .entry))) ⌝ }
 {
-    let answer = writings::write_case(v, out);
-    counted(answer)
+    counted(writings::write_case(v, out))
 }
 
 // The certificate whose numbers are v.
@@ -133,6 +128,5 @@ pub extern "C" fn nostwier_write_case(v: &[i64], out: &mut [u8]) -> Count
 pub extern "C" fn nostwier_write_certificate(v: &[i64], out: &mut [u8]) -> Count
     ensures { λ r. ⌜ (r ≡ countOf (writeCertificate (now (v .entry)) (length (now (out .entry))))) × (now (out .exit) ≡ writeCertificateBuffer (now (v .entry)) (now (out .entry))) ⌝ }
 {
-    let answer = writings::write_certificate(v, out);
-    counted(answer)
+    counted(writings::write_certificate(v, out))
 }
