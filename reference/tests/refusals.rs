@@ -120,7 +120,9 @@ fn certificate_heads_are_looked_at_in_order() {
 #[test]
 fn the_ends_of_every_range_are_inside() {
     // A case of zero widths takes any one field at either end of its range,
-    // unless that turns a step or a pair of limits over.
+    // but for a width behind one of 0, a price of width 0 and a minimum above
+    // 0. These are the first widths of the curves and of the offer.
+    const FIRST_WIDTHS: [usize; 5] = [13, 21, 29, 37, 72];
     let mut pair = worked::pair();
     pair.case.counts.flowgates = 1;
     pair.case.flowgates = vec![Flowgate { limit: 0, factors: vec![0] }];
@@ -136,18 +138,15 @@ fn the_ends_of_every_range_are_inside() {
             changed[index] = number;
             let case = nostwier_reference::case::Case::from_numbers(counts, &changed);
             let pair = nostwier_reference::generate::Pair { case, ..pair.clone() };
-            let answer = check_case(&pair.case_file());
-            let turned = match field.name {
-                "curve width" | "energy width" => number > 0,
-                "curve price" | "energy price" => number != 0,
-                _ => false,
+            let behind_none = number > 0 && !FIRST_WIDTHS.contains(&index);
+            let expected = match field.name {
+                "curve width" | "energy width" if behind_none => Err(Refusal::StepRule),
+                "curve price" | "energy price" if number != 0 => Err(Refusal::StepRule),
+                name if name.ends_with("minimum") && number > 0 => Err(Refusal::LimitPair),
+                _ => Ok(()),
             };
-            let above = field.name.ends_with("minimum") && number > 0;
-            match answer {
-                Err(Refusal::StepRule) if turned => (),
-                Err(Refusal::LimitPair) if above => (),
-                _ => assert!(answer.is_ok(), "{field:?} at {number}: {answer:?}"),
-            }
+            let answer = check_case(&pair.case_file()).map(|_| ());
+            assert_eq!(answer, expected, "{field:?} at {number}");
             looked_at += 1;
         }
     }
@@ -201,17 +200,22 @@ fn no_harm_makes_an_operation_panic_or_disagree() {
 
 #[test]
 fn random_bytes_are_refused() {
+    // Their first four bytes are not their length, and as numbers the first
+    // is out of R's range.
     let mut random = Random::new(6);
     for _ in 0..2000 {
         let (one, other) = (random_bytes(&mut random), random_bytes(&mut random));
-        assert!(check_certificate(&one, &other).is_err());
-        assert!(program::text(&one).is_err());
+        assert_eq!(check_case(&one).map(|_| ()), Err(Refusal::CaseLength));
+        assert_eq!(check_certificate(&one, &other), refused(Refusal::CaseLength));
+        assert_eq!(read_certificate(&other, &mut [0; 4000]), Err(Refusal::CertificateLength));
+        assert_eq!(program::text(&one), refused(Refusal::CaseLength));
         let numbers: Vec<i64> = one
             .chunks(8)
             .map(|chunk| chunk.iter().fold(0, |sum, byte| sum << 8 | i64::from(*byte)))
             .collect();
-        assert!(write_case(&numbers, &mut [0; 4000]).is_err());
-        assert!(write_certificate(&numbers, &mut [0; 4000]).is_err());
+        let expected = if numbers.len() < 3 { Refusal::Numbers } else { Refusal::Counts };
+        assert_eq!(write_case(&numbers, &mut [0; 4000]), Err(expected));
+        assert_eq!(write_certificate(&numbers, &mut [0; 4000]), Err(expected));
     }
 }
 

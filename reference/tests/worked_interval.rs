@@ -6,7 +6,7 @@ use common::{check, program_text, refused};
 use nostwier_reference::case::{flag, status, Flowgate, Kind};
 use nostwier_reference::generate::Pair;
 use nostwier_reference::standing::{is_online, ramp};
-use nostwier_reference::{charges, prices, worked, Refusal};
+use nostwier_reference::{charges, prices, worked, Failure, Refusal, Totals};
 
 /// Where resource 1's energy stands among the amounts of K.
 const ENERGY: usize = 4;
@@ -17,6 +17,16 @@ fn with_energy_price(price: i64) -> Pair {
     let mut pair = worked::pair();
     pair.certificate.row_prices[0] = price;
     pair
+}
+
+/// What is due of K's certificate: its cost without a gap while resource 1 is
+/// on-line, and its energy above a bound of 0 otherwise.
+fn as_in_k(online: bool) -> Result<Totals, Failure> {
+    if online {
+        Ok(Totals { cost: 140_000_000_000, bound: 140_000_000_000, gap: 0 })
+    } else {
+        refused(Refusal::Quantity { place: 5 })
+    }
 }
 
 fn with_demand_and_energy(power: i64) -> Pair {
@@ -104,7 +114,7 @@ fn h_outputs_of_500_either_way_are_on_line() {
         let mut pair = worked::pair();
         pair.case.resources[0].output = output;
         assert_eq!(is_online(&pair.case.resources[0]), online, "output {output}");
-        assert_eq!(check(&pair).is_ok(), online, "output {output}");
+        assert_eq!(check(&pair), as_in_k(online), "output {output}");
     }
 }
 
@@ -113,7 +123,7 @@ fn i_fifteen_minutes_after_a_trip_are_too_few() {
     for (minutes, online) in [(0, false), (15, false), (16, true), (254, true), (255, true)] {
         let mut pair = worked::pair();
         pair.case.resources[0].minutes_since_trip = minutes;
-        assert_eq!(check(&pair).is_ok(), online, "minutes {minutes}");
+        assert_eq!(check(&pair), as_in_k(online), "minutes {minutes}");
     }
 }
 
@@ -125,7 +135,7 @@ fn j_a_committed_intermittent_resource_needs_output() {
         resource.kind = Kind::Intermittent;
         resource.status = status::COMMITTED;
         resource.output = output;
-        assert_eq!(check(&pair).is_ok(), online, "output {output}");
+        assert_eq!(check(&pair), as_in_k(online), "output {output}");
     }
 }
 
@@ -138,7 +148,9 @@ fn k_the_ramp_multiplies_before_it_divides() {
 
 #[test]
 fn k_the_ramp_bounds_contingency_reserve() {
-    for (amount, answer) in [(42_857, None), (42_858, Some(Refusal::Quantity { place: 7 }))] {
+    for (amount, answer) in
+        [(42_857, as_in_k(true)), (42_858, refused(Refusal::Quantity { place: 7 }))]
+    {
         let mut pair = worked::pair();
         pair.case.contingency.multiplier = 700;
         pair.case.contingency.share = 1000;
@@ -147,10 +159,7 @@ fn k_the_ramp_bounds_contingency_reserve() {
         resource.flags = flag::SPINNING;
         resource.economic.maximum = 200_000;
         pair.certificate.amounts[ENERGY + 2] = amount;
-        match answer {
-            None => assert!(check(&pair).is_ok()),
-            Some(refusal) => assert_eq!(check(&pair), refused(refusal)),
-        }
+        assert_eq!(check(&pair), answer, "{amount} kW");
     }
 }
 
