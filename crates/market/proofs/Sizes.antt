@@ -192,10 +192,10 @@ part-most c x b (Whole i s) h = at-quantity c (λ q. x q ≤ upperBound c q) b (
 part-most c x b (CurveStep k j) h = omega arith
 
 module _ (c : Case) (h : CaseRanges c) where
-  energy-widths : (i : ℕ) → i < c .resources → totalOf (c .resource i .stepWidth) (upto energySteps) ≤ mostPower
+  pub energy-widths : (i : ℕ) → i < c .resources → totalOf (c .resource i .stepWidth) (upto energySteps) ≤ mostPower
   energy-widths i m = omega (arith, widths-total (c .resource i .stepWidth) energySteps, h .resource i m .widths-to)
 
-  curve-widths : (k : Curve) → totalOf (c .curveWidth k) (upto curveSteps) ≤ mostAmount (Cleared k)
+  pub curve-widths : (k : Curve) → totalOf (c .curveWidth k) (upto curveSteps) ≤ mostAmount (Cleared k)
   curve-widths k = total-most (c .curveWidth k) mostCurveWidth curveSteps (h .curve-width k)
 
   pub amount-most : (q : Quantity) → QuantityOf c q → upperBound c q ≤ mostAmount q

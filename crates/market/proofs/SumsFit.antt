@@ -2,14 +2,14 @@
 use mathlib.Core.Path.{_≡_, refl}
 use mathlib.Core.List.{map}
 use Prim.Native.Nat.{ℕ, _+_, _*_, _<_, _≤_}
-use native.Mathlib.Nat.{le-refl, mul-le-mul-left}
+use native.Mathlib.Nat.{le-refl, mul-le-mul, mul-le-mul-left}
 use native.Mathlib.Omega.{arith}
 use lib.IntN.{ℤ, pos, natAbs, _*ℤ_}
 use Rattle.arith.specs.Sums.{totalOf, sizeOf, upto, across, Each}
-use Rattle.arith.proofs.Lists.{each-join, each-map, each-upto}
+use Rattle.arith.proofs.Lists.{each-any, each-join, each-map, each-upto}
 use Rattle.arith.proofs.Magnitudes.{Size, size-nat, size-more, size-add, size-sub, size-mul, size-least}
-use Rattle.arith.proofs.Sums.{total-mono, total-scale, sum-scale, size-sum}
-use Rattle.market.specs.Case.{Case}
+use Rattle.arith.proofs.Sums.{total-mono, total-mono-all, total-same, total-scale, sum-scale, size-sum}
+use Rattle.market.specs.Case.{Case, Curve, curves, Reserve, reserves, curveSteps}
 use Rattle.market.specs.CaseFile.{caseOf}
 use Rattle.market.specs.UpperBounds.{energy, regulation, contingency, onLineShortTerm, offLineShortTerm, Quantity, Cleared, Provided, quantities, Schedule, upperBound}
 use Rattle.market.specs.Rows.{Row, Balance, Market, Zone, Flowgate, Limited, Limit, maxWithReserve, maxWithShortTerm, minimum, high, low, rows, coefficient, rightSide, leftSide, slack, Bounded}
@@ -18,10 +18,10 @@ use Rattle.market.specs.Cost.{Priced, priced, quantityOf, offer, width, 
 use Rattle.market.specs.Bound.{rowValue, netPrice, lowest, bound}
 use Rattle.market.specs.Charges.{rowCharge, pricedCharge, charges}
 use Rattle.market.specs.Prices.{zonePrices}
-use Rattle.market.specs.Fits.{Fits64, SumsFit, SumsFitTheorem}
+use Rattle.market.specs.Fits.{Fits64, TermsFit, SumsFit, SumsFitTheorem}
 use Rattle.market.proofs.Families.{RowOf, QuantityOf, PricedOf, largest, rows-most, quantities-most, quantity-of, at-quantity, each-row, each-quantity, each-priced}
 use Rattle.market.proofs.Ranges.{mostDemand, mostFactor, CaseRanges, PriceRanges, valid-ranges, price-ranges, bounded}
-use Rattle.market.proofs.Sizes.{mostLimit, mostCoefficient, mostRight, mostAmount, mostPrice, mostNet, capacity, capacity-most, width-most, part-most, amount-most, priced-most, coefficient-size, right-size, offer-size, net-size, flowgates-most, lmp-size, supplemental-size, spinning-size, regulating-size, short-term-size}
+use Rattle.market.proofs.Sizes.{mostLimit, mostCoefficient, mostRight, mostAmount, mostPrice, mostNet, capacity, energy-widths, curve-widths, capacity-most, width-most, part-most, amount-most, priced-most, coefficient-size, right-size, offer-size, net-size, flowgates-most, lmp-size, supplemental-size, spinning-size, regulating-size, short-term-size}
 
 -- ---- figures, computed over the largest case
 -- all amounts together, in kW
@@ -111,6 +111,10 @@ charge-figure (Provided i onLineShortTerm) = omega arith
 charge-figure (Provided i offLineShortTerm) = omega arith
 
 module _ (c : Case) (h : CaseRanges c) where
+  -- an offer in thousandths of a cent
+  offered-size : (p : Priced) → PricedOf c p → Size (pos 1000 *ℤ offer c p) mostPrice
+  offered-size p m = size-mul (size-nat (le-refl 1000)) (offer-size c h p m)
+
   -- ---- a schedule within its bounds
   module _ (x : Schedule) (b : Bounded c x) where
     -- cost
@@ -175,7 +179,7 @@ module _ (c : Case) (h : CaseRanges c) where
     -- every net price, by the count of all rows
     any-net-size : (q : Priced) → PricedOf c q → Size (netPrice c y q) (mostPrice + mostTaken)
     unfolding netPrice rowValue
-    any-net-size q m = size-sub (size-mul (size-nat (le-refl 1000)) (offer-size c h q m)) (size-sum _ (rows c) (taken-terms-most (quantityOf q) (quantity-of c q m)))
+    any-net-size q m = size-sub (offered-size q m) (size-sum _ (rows c) (taken-terms-most (quantityOf q) (quantity-of c q m)))
 
     -- the bound: rows
     row-term : (r : Row) → RowOf c r → Size (y r *ℤ rightSide c r) (highestPrice r * mostRight r)
@@ -223,11 +227,16 @@ module _ (c : Case) (h : CaseRanges c) where
       unfolding rowCharge
       row-charge-size r m = size-more (size-mul (p .price r m) (slack-size x b r m)) (omega (arith, price-figure r))
 
+      -- net price × amount, and the lowest as much again
+      paid-size : (q : Priced) → PricedOf c q → Size (netPrice c y q *ℤ pos (part c x q)) (mostNet (quantityOf q) * capacity c q)
+      paid-size q m = size-mul (net-size c y h p q m) (size-nat (part-most c x b q m))
+
+      paid-figure : (q : Priced) → PricedOf c q → mostNet (quantityOf q) * capacity c q + mostNet (quantityOf q) * capacity c q ≤ mostCharge
+      paid-figure q m = omega (arith, mul-le-mul-left (mostNet (quantityOf q)) (capacity-most c h q m), charge-figure (quantityOf q))
+
       pub priced-charge-size : (q : Priced) → PricedOf c q → Size (pricedCharge c x y q) mostCharge
       unfolding pricedCharge
-      priced-charge-size q m =
-          size-more (size-sub (size-mul (net-size c y h p q m) (size-nat (part-most c x b q m))) (lowest-size q m))
-          (omega (arith, mul-le-mul-left (mostNet (quantityOf q)) (capacity-most c h q m), charge-figure (quantityOf q)))
+      priced-charge-size q m = size-more (size-sub (paid-size q m) (lowest-size q m)) (paid-figure q m)
 
       charges-fit : Each (λ v. Fits64 v) (charges c x y)
       unfolding charges
@@ -236,27 +245,44 @@ module _ (c : Case) (h : CaseRanges c) where
           (each-map _ (rowCharge c x y) (rows c) (each-row c (λ r. Fits64 (rowCharge c x y r)) (λ r m. omega (arith, row-charge-size r m))))
           (each-map _ (pricedCharge c x y) (priced c) (each-priced c (λ q. Fits64 (pricedCharge c x y q)) (λ q m. omega (arith, priced-charge-size q m))))
 
+      -- a price for each curve
+      curve-prices : (f : Curve → Row) → ((k : Curve) → Size (y (f k)) mostPrice) → sizeOf (λ k. y (f k)) curves ≤ 4 * mostPrice
+      curve-prices f m = omega (arith, total-mono-all (λ k. natAbs (y (f k))) (λ k. mostPrice) (λ k. m k .le) curves, total-same mostPrice curves)
+
       zone-fits : (z : ℕ) → z < c .zones → Each (λ v. Fits64 v) (zonePrices y z)
       zone-fits z m =
           (omega (arith, regulating-size c y h p z m), (omega (arith, spinning-size c y h p z m), (omega (arith, supplemental-size c y h p z m), (omega (arith, short-term-size c y h p z m), tt))))
 
+      -- the products in RAMP, of one reserve
+      abbrev RampsFit : Reserve → Type 0
+      RampsFit p = Each (λ i. Fits64 (pos (c .resource i .rampRate * c .minutes p * 1000))) (upto (c .resources))
+
       all-fit : SumsFit c x y
       all-fit =
           record {
+            high-fits = each-upto _ (c .resources) (λ i m. omega (arith, h .resource i m .initial-to, h .resource i m .ramp-up));
+            low-terms = each-upto _ (c .resources) (λ i m. omega (arith, h .resource i m .initial-to, h .resource i m .ramp-down));
+            energy-widths = each-upto _ (c .resources) (λ i m. omega (arith, energy-widths c h i m));
+            curve-widths = each-any (λ k. TermsFit (λ j. pos (c .curveWidth k j)) (upto curveSteps)) curves (λ k. omega (arith, curve-widths c h k));
+            ramp-products = each-any RampsFit reserves (λ p. each-upto _ (c .resources) (λ i m. omega (arith, mul-le-mul (h .resource i m .ramp-rate) (h .reserve p .minutes-to))));
+            share-products = each-any (λ p. Fits64 (pos (c .share p * c .requirement p))) reserves (λ p. omega (arith, mul-le-mul (h .reserve p .share-to) (h .reserve p .requirement-to)));
             cost-terms = omega (arith, cost-terms-most x b);
             cost-fits = omega (arith, cost-size x b);
-            left-terms = each-row c _ (λ r m. omega (arith, left-terms-most x b r m, coefficient-figure r));
+            slack-terms = each-row c _ (λ r m. omega (arith, right-size c h r m, right-figure r, left-terms-most x b r m, coefficient-figure r));
             left-fits = each-row c _ (λ r m. omega (arith, left-size x b r m, coefficient-figure r));
             slack-fits = each-row c _ (λ r m. omega (arith, slack-size x b r m, coefficient-figure r));
-            net-terms = each-priced c _ (λ q m. omega (arith, taken-terms-most (quantityOf q) (quantity-of c q m)));
+            offer-fits = each-priced c _ (λ q m. omega (arith, offered-size q m));
+            net-terms = each-priced c _ (λ q m. omega (arith, offered-size q m, taken-terms-most (quantityOf q) (quantity-of c q m)));
             net-fits = each-priced c _ (λ q m. omega (arith, any-net-size q m));
             product-terms = omega (arith, products-most);
             bound-terms = omega (arith, row-terms-most, lowest-most);
             bound-fits = omega (arith, bound-size);
             gap-fits = omega (arith, size-sub (cost-size x b) bound-size);
+            charge-products = each-priced c _ (λ q m. omega (arith, paid-size q m, paid-figure q m));
             charge-fits = charges-fit;
-            lmp-terms = each-upto _ (c .resources) (λ i m. omega (arith, flowgates-most c y h p i m));
+            lmp-terms = each-upto _ (c .resources) (λ i m. omega (arith, p .price Balance tt, flowgates-most c y h p i m));
             lmp-fits = each-upto _ (c .resources) (λ i m. omega (arith, lmp-size c y h p i m));
+            zone-price-terms = each-upto _ (c .zones) (λ z m. omega (arith, curve-prices Market (λ k. p .price (Market k) tt), curve-prices (Zone z) (λ k. p .price (Zone z k) m)));
             zone-prices-fit = each-upto _ (c .zones) zone-fits;
           }
 

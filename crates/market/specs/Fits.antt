@@ -2,15 +2,15 @@
 -- certificate whose prices are in range and whose quantities are within their bounds.
 use mathlib.Core.List.{List}
 use mathlib.Core.Path.{_≡_}
-use Prim.Native.Nat.{ℕ, _+_, _<_}
+use Prim.Native.Nat.{ℕ, _+_, _*_, _<_}
 use lib.Dec.{T}
 use lib.IntN.{ℤ, pos, natAbs, _*ℤ_}
 use Rattle.arith.specs.Sums.{sizeOf, Each, all, upto}
 use Rattle.market.specs.declared.Refusal.the-variants.{AboveBound}
-use Rattle.market.specs.Case.{Case}
+use Rattle.market.specs.Case.{Case, curves, reserves, energySteps, curveSteps}
 use Rattle.market.specs.CaseFile.{caseOf}
 use Rattle.market.specs.UpperBounds.{quantities, Schedule}
-use Rattle.market.specs.Rows.{rows, coefficient, rightSide, Flowgate, slack, leftSide}
+use Rattle.market.specs.Rows.{rows, coefficient, rightSide, Balance, Market, Zone, Flowgate, slack, leftSide}
 use Rattle.market.specs.Certificate.{Prices, certificateOf}
 use Rattle.market.specs.Cost.{priced, quantityOf, offer, width, part, cost}
 use Rattle.market.specs.Bound.{rowValue, netPrice, lowest, bound}
@@ -31,27 +31,43 @@ module _ {A : Type 0} where
   abbrev pub TermsFit : (A → ℤ) → List A → Type 0
   TermsFit f xs = sizeOf f xs < range64
 
+  -- and with one number more
+  abbrev pub TermsFitWith : ℤ → (A → ℤ) → List A → Type 0
+  TermsFitWith v f xs = natAbs v + sizeOf f xs < range64
+
 pub record SumsFit (c : Case) (x : Schedule) (y : Prices) : Type 0 where
+  -- HI = initial + 5 × ramp up; of LO, initial - 5 × ramp down, the two together
+  pub high-fits : Each (λ i. Fits64 (pos (c .resource i .initial + 5 * c .resource i .rampUp))) (upto (c .resources))
+  pub low-terms : Each (λ i. Fits64 (pos (c .resource i .initial + 5 * c .resource i .rampDown))) (upto (c .resources))
+  -- the sums of step widths, a resource's and a curve's
+  pub energy-widths : Each (λ i. TermsFit (λ j. pos (c .resource i .stepWidth j)) (upto energySteps)) (upto (c .resources))
+  pub curve-widths : Each (λ k. TermsFit (λ j. pos (c .curveWidth k j)) (upto curveSteps)) curves
+  -- RAMP = ramp rate × t × 1000 / m and SHARE = share × requirement / 1000: the products, before they are divided
+  pub ramp-products : Each (λ p. Each (λ i. Fits64 (pos (c .resource i .rampRate * c .minutes p * 1000))) (upto (c .resources))) reserves
+  pub share-products : Each (λ p. Fits64 (pos (c .share p * c .requirement p))) reserves
   -- cost
   pub cost-terms : TermsFit (λ p. pos 1000 *ℤ (offer c p *ℤ pos (part c x p))) (priced c)
   pub cost-fits : Fits64 (cost c x)
-  -- the left side of each row, and its slack
-  pub left-terms : Each (λ r. TermsFit (λ q. coefficient c r q *ℤ pos (x q)) (quantities c)) (rows c)
+  -- each row: its left side, and its slack, left side less right side (a flowgate's is 1000 × limit)
+  pub slack-terms : Each (λ r. TermsFitWith (rightSide c r) (λ q. coefficient c r q *ℤ pos (x q)) (quantities c)) (rows c)
   pub left-fits : Each (λ r. Fits64 (leftSide c x r)) (rows c)
   pub slack-fits : Each (λ r. Fits64 (slack c x r)) (rows c)
-  -- each net price
-  pub net-terms : Each (λ p. TermsFit (λ r. y r *ℤ coefficient c r (quantityOf p)) (rows c)) (priced c)
+  -- each net price: 1000 × its price less, over all rows, row price × coefficient
+  pub offer-fits : Each (λ p. Fits64 (pos 1000 *ℤ offer c p)) (priced c)
+  pub net-terms : Each (λ p. TermsFitWith (pos 1000 *ℤ offer c p) (λ r. y r *ℤ coefficient c r (quantityOf p)) (rows c)) (priced c)
   pub net-fits : Each (λ p. Fits64 (netPrice c y p)) (priced c)
   -- the bound: all of its terms together
   pub product-terms : TermsFit (λ p. netPrice c y p *ℤ pos (width c p)) (priced c)
   pub bound-terms : (sizeOf (λ r. y r *ℤ rightSide c r) (rows c) + sizeOf (lowest c y) (priced c)) < range64
   pub bound-fits : Fits64 (bound c y)
   pub gap-fits : Fits64 (gap c x y)
-  -- each charge
+  -- each charge, and of a priced quantity's the product net price × amount
+  pub charge-products : Each (λ p. Fits64 (netPrice c y p *ℤ pos (part c x p))) (priced c)
   pub charge-fits : Each (λ v. Fits64 v) (charges c x y)
-  -- prices
-  pub lmp-terms : Each (λ i. TermsFit (λ f. y (Flowgate f) *ℤ c .shiftFactor f i) (upto (c .flowgates))) (upto (c .resources))
+  -- prices: an LMP is row 1's price less the sum of flowgate price × factor; zone prices add market rows and zone rows
+  pub lmp-terms : Each (λ i. TermsFitWith (y Balance) (λ f. y (Flowgate f) *ℤ c .shiftFactor f i) (upto (c .flowgates))) (upto (c .resources))
   pub lmp-fits : Each (λ i. Fits64 (LMP c y i)) (upto (c .resources))
+  pub zone-price-terms : Each (λ z. (sizeOf (λ k. y (Market k)) curves + sizeOf (λ k. y (Zone z k)) curves) < range64) (upto (c .zones))
   pub zone-prices-fit : Each (λ z. Each (λ v. Fits64 v) (zonePrices y z)) (upto (c .zones))
 
 -- past 12 and 13
