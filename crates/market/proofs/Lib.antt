@@ -11,6 +11,10 @@ pub mod Lengths
 pub mod Accepted
 pub mod Shown
 pub mod Families
+pub mod Tests
+pub mod StepOrder
+pub mod CheckInWords
+pub mod AvailabilityInWords
 pub mod Ranges
 pub mod Sizes
 pub mod SumsFit

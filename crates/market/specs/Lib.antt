@@ -21,6 +21,8 @@ pub mod Worked
 pub mod Promise
 pub mod RefusedExactly
 pub mod InWords
+pub mod CheckInWords
+pub mod AvailabilityInWords
 pub mod WrongTurns
 pub mod Fits
 pub mod RoundTrips

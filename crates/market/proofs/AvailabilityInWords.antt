@@ -1,0 +1,173 @@
+-- On-line kind by kind, limits and upper bounds flag by flag.
+use mathlib.Core.Bool.{Bool, true, false, _||_}
+use mathlib.Core.List.{[], _∷_}
+use mathlib.Core.Logic.{_⊎_, inl, inr}
+use mathlib.Core.Path.{_≡_, refl, sym, _∙_, ap}
+use Prim.Native.Nat.{ℕ, _+_, _*_, _-_, _/_, _%_, _≤_, _<_, min, max}
+use native.Mathlib.Decide.{decLe}
+use native.Mathlib.Omega.{arith}
+use lib.IntN.{ℤ, pos, negℤ, _-ℤ_}
+use lib.Signed.{_≤ℤ_, _<ℤ_}
+use Rattle.arith.proofs.Parts.{add-fact, le-in, P-neg, N-neg}
+use Rattle.arith.proofs.Order.{pos-sub}
+use Rattle.market.specs.Case.{Case, Resource, Reserve, contingencyReserve}
+use Rattle.market.specs.Availability.{onLine}
+use Rattle.market.specs.Limits.{MAX, MIN, HI, LO}
+use Rattle.market.specs.UpperBounds.{contingency, RAMP, SHARE, onLineBound, serviceBound, upperBound}
+use Rattle.market.specs.AvailabilityInWords.{BitSet, OnLine, Closed, OneOf, LeastOf, LargestOf, LeastOnLine, OnLineInWords, LimitsInWords, BoundsInWords, AvailabilityInWords}
+use Rattle.market.proofs.Tests.{Decides, true-exactly, reworded, both, either, eq-test, lt-test, leℤ-test, ltℤ-test}
+
+-- ---- on-line
+abbrev AtLeast500 : Resource → Type 0
+AtLeast500 r = (pos 500 ≤ℤ r .output) ⊎ (r .output ≤ℤ negℤ (pos 500))
+
+abbrev Conventional : Resource → Type 0
+Conventional r = (((r .kind ≡ 1) × AtLeast500 r) × Closed r) × (15 < r .trip)
+
+abbrev Intermittent : Resource → Type 0
+Intermittent r = (((r .kind ≡ 2) × BitSet 1 (r .status)) × Closed r) × (pos 0 <ℤ r .output)
+
+abbrev External : Resource → Type 0
+External r = (((r .kind ≡ 3) × BitSet 2 (r .status)) × Closed r) × BitSet 4 (r .status)
+
+on-line-test : (r : Resource) → Decides (onLine r) ((Conventional r ⊎ Intermittent r) ⊎ External r)
+unfolding onLine
+on-line-test r =
+    let kind : (n : ℕ) → Decides _ (r .kind ≡ n) = λ n. eq-test (r .kind) n in
+    let closed = eq-test (r .breaker) 1 in
+    either
+    (either
+    (both (both (both (kind 1) (either (leℤ-test (pos 500) (r .output)) (leℤ-test (r .output) (negℤ (pos 500))))) closed) (lt-test 15 (r .trip)))
+    (both (both (both (kind 2) (eq-test (r .status / 1 % 2) 1)) closed) (ltℤ-test (pos 0) (r .output))))
+    (both (both (both (kind 3) (eq-test (r .status / 2 % 2) 1)) closed) (eq-test (r .status / 4 % 2) 1))
+
+of-conventional : (r : Resource) → r .kind ≡ 1 → (Conventional r ⊎ Intermittent r) ⊎ External r → AtLeast500 r × Closed r × (15 < r .trip)
+of-conventional r e (inl (inl h)) = (h .0 .0 .1, h .0 .1, h .1)
+of-conventional r e (inl (inr h)) = absurd (omega (arith, h .0 .0 .0))
+of-conventional r e (inr h) = absurd (omega (arith, h .0 .0 .0))
+
+of-intermittent : (r : Resource) → r .kind ≡ 2 → (Conventional r ⊎ Intermittent r) ⊎ External r → BitSet 1 (r .status) × Closed r × (pos 0 <ℤ r .output)
+of-intermittent r e (inl (inl h)) = absurd (omega (arith, h .0 .0 .0))
+of-intermittent r e (inl (inr h)) = (h .0 .0 .1, h .0 .1, h .1)
+of-intermittent r e (inr h) = absurd (omega (arith, h .0 .0 .0))
+
+of-external : (r : Resource) → r .kind ≡ 3 → (Conventional r ⊎ Intermittent r) ⊎ External r → BitSet 2 (r .status) × Closed r × BitSet 4 (r .status)
+of-external r e (inl (inl h)) = absurd (omega (arith, h .0 .0 .0))
+of-external r e (inl (inr h)) = absurd (omega (arith, h .0 .0 .0))
+of-external r e (inr h) = (h .0 .0 .1, h .0 .1, h .1)
+
+of-kinds : (r : Resource) → (Conventional r ⊎ Intermittent r) ⊎ External r → (1 ≤ r .kind) × (r .kind ≤ 3)
+of-kinds r (inl (inl h)) = omega (arith, h .0 .0 .0)
+of-kinds r (inl (inr h)) = omega (arith, h .0 .0 .0)
+of-kinds r (inr h) = omega (arith, h .0 .0 .0)
+
+on-line-in-words : (r : Resource) → OnLineInWords r
+on-line-in-words r =
+    record {
+      conventional = λ e. true-exactly (reworded (on-line-test r) (of-conventional r e) (λ h. inl (inl (((e, h .0), h .1), h .2))));
+      intermittent = λ e. true-exactly (reworded (on-line-test r) (of-intermittent r e) (λ h. inl (inr (((e, h .0), h .1), h .2))));
+      external = λ e. true-exactly (reworded (on-line-test r) (of-external r e) (λ h. inr (((e, h .0), h .1), h .2)));
+      no-other-kind = λ e. of-kinds r (true-exactly (on-line-test r) .0 e);
+    }
+
+-- ---- the least and the largest of some numbers
+module _ (n : ℕ) where
+  least-of-two : (a b : ℕ) → n ≡ min a b → LeastOf (a ∷ b ∷ []) n
+  least-of-two a b e = ((omega arith, (omega arith, tt)), go (decLe a b))
+    where
+      go : Dec (a ≤ b) → OneOf (a ∷ b ∷ []) n
+      go (yes h) = inl (omega arith)
+      go (no h) = inr (inl (omega arith))
+
+  least-of-three : (a b c : ℕ) → n ≡ min a (min b c) → LeastOf (a ∷ b ∷ c ∷ []) n
+  least-of-three a b c e = ((omega arith, (omega arith, (omega arith, tt))), go (decLe a (min b c)) (decLe b c))
+    where
+      go : Dec (a ≤ min b c) → Dec (b ≤ c) → OneOf (a ∷ b ∷ c ∷ []) n
+      go (yes h) t = inl (omega arith)
+      go (no h) (yes k) = inr (inl (omega arith))
+      go (no h) (no k) = inr (inr (inl (omega arith)))
+
+  module _ (a d : ℕ) where
+    not-negative : pos 0 ≤ℤ pos n
+    not-negative = le-in (omega arith)
+
+    at-least-difference : a - d ≤ n → (pos a -ℤ pos d) ≤ℤ pos n
+    at-least-difference h = le-in (omega (arith, add-fact (pos a) (negℤ (pos d)), P-neg (pos d), N-neg (pos d)))
+
+    difference : n ≡ a - d → d ≤ a → pos n ≡ pos a -ℤ pos d
+    difference e l = ap pos e ∙ sym (pos-sub a d l)
+
+    larger-of-difference : n ≡ a - d → LargestOf (pos 0 ∷ (pos a -ℤ pos d) ∷ []) (pos n)
+    larger-of-difference e = ((not-negative, (at-least-difference (omega arith), tt)), go (decLe d a))
+      where
+        go : Dec (d ≤ a) → OneOf (pos 0 ∷ (pos a -ℤ pos d) ∷ []) (pos n)
+        go (yes l) = inr (inl (difference e l))
+        go (no l) = let z : n ≡ 0 = omega arith in inl (ap pos z)
+
+    largest-with : (s : ℕ) → n ≡ max (a - d) s → LargestOf (pos 0 ∷ (pos a -ℤ pos d) ∷ pos s ∷ []) (pos n)
+    largest-with s e = ((not-negative, (at-least-difference (omega arith), (le-in (omega arith), tt))), go (decLe (a - d) s))
+      where
+        go : Dec (a - d ≤ s) → OneOf (pos 0 ∷ (pos a -ℤ pos d) ∷ pos s ∷ []) (pos n)
+        go (yes l) = let z : n ≡ s = omega arith in inr (inr (inl (ap pos z)))
+        go (no l) = inr (inl (difference (omega arith) (omega arith)))
+
+-- ---- limits
+limits-in-words : (r : Resource) → LimitsInWords r
+unfolding MAX MIN HI LO
+limits-in-words r =
+    record {
+      max-emergency = λ e h. rw (e, h);
+      max-regulating = λ e h k. rw (e, h, k);
+      max-economic = λ e h k. rw (e, h, k);
+      min-emergency = λ e h. rw (e, h);
+      min-regulating = λ e h k. rw (e, h, k);
+      min-economic = λ e h k. rw (e, h, k);
+      high-ramped = λ e. rw e;
+      low-ramped = λ e h. larger-of-difference (LO r) (r .initial) (5 * r .rampDown) (rw (e, h));
+      low-self-scheduled = λ e h. largest-with (LO r) (r .initial) (5 * r .rampDown) (r .selfSchedule) (rw (e, h));
+      off-line-limits = λ e. (rw e, rw e, rw e, rw e);
+    }
+
+-- ---- upper bounds
+or-true : (t : Bool) → (t || true) ≡ true
+or-true true = refl
+or-true false = refl
+
+least-on-line : (c : Case) (p : Reserve) (r : Resource) (n : ℕ) → n ≡ onLineBound c p r → LeastOnLine c p r n
+unfolding onLineBound
+least-on-line c p r n e = least-of-three n (RAMP c p r) (SHARE c p) (MAX r) e
+
+supplemental : (c : Case) (r : Resource) → OnLine r → BitSet 8 (r .status) → serviceBound c r contingency ≡ onLineBound c contingencyReserve r
+unfolding serviceBound
+supplemental c r e h = rw (e, h, or-true)
+
+bounds-in-words : (c : Case) (r : Resource) → BoundsInWords c r
+unfolding serviceBound
+bounds-in-words c r =
+    record {
+      e-on-line = λ e. rw e;
+      g-flagged = λ e h. least-on-line c _ r _ (rw (e, h));
+      g-clear = λ e h. rw (e, h);
+      c-spinning = λ e h. least-on-line c _ r _ (rw (e, h));
+      c-supplemental = λ e h. least-on-line c _ r _ (supplemental c r e h);
+      c-clear = λ e h k. rw (e, h, k);
+      s-flagged = λ e h. least-on-line c _ r _ (rw (e, h));
+      s-clear = λ e h. rw (e, h);
+      o-on-line = λ e. rw e;
+      e-g-s-off-line = λ e. (rw e, rw e, rw e);
+      c-off-line = λ e h. least-of-three _ (r .economicMax) (r .offLineResponse) (SHARE c contingencyReserve) (rw (e, h));
+      c-off-line-clear = λ e h. rw (e, h);
+      o-off-line = λ e h. least-of-two _ (r .economicMax) (r .offLineShortTerm) (rw (e, h));
+      o-off-line-clear = λ e h. rw (e, h);
+    }
+
+pub availability-in-words : AvailabilityInWords
+unfolding upperBound
+availability-in-words =
+    record {
+      on-line = on-line-in-words;
+      limits = limits-in-words;
+      bounds = bounds-in-words;
+      bound-of-provided = λ c i s. refl;
+      bound-of-cleared = λ c k. refl;
+    }

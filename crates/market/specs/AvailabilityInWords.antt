@@ -1,0 +1,103 @@
+-- On-line, MAX, MIN, HI, LO and the upper bounds in the words of 01 ('Before the rows'), with the value of each status bit
+-- and flag where it is used.
+use mathlib.Core.Bool.{true, false}
+use mathlib.Core.List.{List, [], _∷_}
+use mathlib.Core.Logic.{_↔_, _⊎_}
+use mathlib.Core.Path.{_≡_}
+use Prim.Native.Nat.{ℕ, _+_, _*_, _/_, _%_, _≤_, _<_}
+use lib.IntN.{ℤ, pos, negℤ, _-ℤ_}
+use lib.Signed.{_≤ℤ_, _<ℤ_}
+use Rattle.arith.specs.Sums.{Each}
+use Rattle.market.specs.Case.{Case, Resource, Curve, Reserve, regulatingReserve, contingencyReserve, shortTermReserve, widthOf}
+use Rattle.market.specs.Availability.{onLine}
+use Rattle.market.specs.Limits.{MAX, MIN, HI, LO}
+use Rattle.market.specs.UpperBounds.{Service, energy, regulation, contingency, onLineShortTerm, offLineShortTerm, Cleared, Provided, RAMP, SHARE, serviceBound, upperBound}
+
+-- the bit of value v is 1, or 0, in n
+abbrev pub BitSet : ℕ → ℕ → Type 0
+BitSet v n = n / v % 2 ≡ 1
+
+abbrev pub BitClear : ℕ → ℕ → Type 0
+BitClear v n = n / v % 2 ≡ 0
+
+abbrev pub OnLine : Resource → Type 0
+OnLine r = onLine r ≡ true
+
+abbrev pub OffLine : Resource → Type 0
+OffLine r = onLine r ≡ false
+
+-- n is one of them
+module _ {A : Type 0} where
+  abbrev pub OneOf : List A → A → Type 0
+  OneOf [] n = ⊥
+  OneOf (m ∷ ms) n = (n ≡ m) ⊎ OneOf ms n
+
+abbrev pub LeastOf : List ℕ → ℕ → Type 0
+LeastOf ms n = Each (λ m. n ≤ m) ms × OneOf ms n
+
+abbrev pub LargestOf : List ℤ → ℤ → Type 0
+LargestOf ms n = Each (λ m. m ≤ℤ n) ms × OneOf ms n
+
+-- ---- on-line
+abbrev pub Closed : Resource → Type 0
+Closed r = r .breaker ≡ 1
+
+pub record OnLineInWords (r : Resource) : Type 0 where
+  -- kind 1: output ≥ 500 or ≤ -500, closed, trip minutes above 15
+  pub conventional : r .kind ≡ 1 → OnLine r ↔ (((pos 500 ≤ℤ r .output) ⊎ (r .output ≤ℤ negℤ (pos 500))) × Closed r × (15 < r .trip))
+  -- kind 2: committed, closed, output > 0
+  pub intermittent : r .kind ≡ 2 → OnLine r ↔ (BitSet 1 (r .status) × Closed r × (pos 0 <ℤ r .output))
+  -- kind 3: available, closed, active schedule
+  pub external : r .kind ≡ 3 → OnLine r ↔ (BitSet 2 (r .status) × Closed r × BitSet 4 (r .status))
+  pub no-other-kind : OnLine r → (1 ≤ r .kind) × (r .kind ≤ 3)
+
+-- ---- limits
+-- initial - 5 × ramp down, which may be below 0
+abbrev pub rampedDown : Resource → ℤ
+rampedDown r = pos (r .initial) -ℤ pos (5 * r .rampDown)
+
+pub record LimitsInWords (r : Resource) : Type 0 where
+  -- on-line: the emergency limit if released, else the regulating one if flag 1, else the economic
+  pub max-emergency : OnLine r → BitSet 16 (r .flags) → MAX r ≡ r .emergencyMax
+  pub max-regulating : OnLine r → BitClear 16 (r .flags) → BitSet 1 (r .flags) → MAX r ≡ r .regulatingMax
+  pub max-economic : OnLine r → BitClear 16 (r .flags) → BitClear 1 (r .flags) → MAX r ≡ r .economicMax
+  pub min-emergency : OnLine r → BitSet 64 (r .flags) → MIN r ≡ r .emergencyMin
+  pub min-regulating : OnLine r → BitClear 64 (r .flags) → BitSet 1 (r .flags) → MIN r ≡ r .regulatingMin
+  pub min-economic : OnLine r → BitClear 64 (r .flags) → BitClear 1 (r .flags) → MIN r ≡ r .economicMin
+  pub high-ramped : OnLine r → HI r ≡ r .initial + 5 * r .rampUp
+  -- at least 0; if self-scheduled, the larger of that and the self-schedule
+  pub low-ramped : OnLine r → BitClear 32 (r .flags) → LargestOf (pos 0 ∷ rampedDown r ∷ []) (pos (LO r))
+  pub low-self-scheduled : OnLine r → BitSet 32 (r .flags) → LargestOf (pos 0 ∷ rampedDown r ∷ pos (r .selfSchedule) ∷ []) (pos (LO r))
+  -- off-line: MAX and HI economic maximum, MIN and LO 0
+  pub off-line-limits : OffLine r → (MAX r ≡ r .economicMax) × (HI r ≡ r .economicMax) × (MIN r ≡ 0) × (LO r ≡ 0)
+
+-- ---- upper bounds
+-- the least of RAMP, SHARE and MAX, with the reserve's own figures
+abbrev pub LeastOnLine : Case → Reserve → Resource → ℕ → Type 0
+LeastOnLine c p r = LeastOf (RAMP c p r ∷ SHARE c p ∷ MAX r ∷ [])
+
+pub record BoundsInWords (c : Case) (r : Resource) : Type 0 where
+  -- on-line: e, the sum of its step widths; g, c, s the least of three, or 0 where the flag is clear; o 0
+  pub e-on-line : OnLine r → serviceBound c r energy ≡ widthOf (r .stepWidth) 10
+  pub g-flagged : OnLine r → BitSet 1 (r .flags) → LeastOnLine c regulatingReserve r (serviceBound c r regulation)
+  pub g-clear : OnLine r → BitClear 1 (r .flags) → serviceBound c r regulation ≡ 0
+  pub c-spinning : OnLine r → BitSet 2 (r .flags) → LeastOnLine c contingencyReserve r (serviceBound c r contingency)
+  pub c-supplemental : OnLine r → BitSet 8 (r .status) → LeastOnLine c contingencyReserve r (serviceBound c r contingency)
+  pub c-clear : OnLine r → BitClear 2 (r .flags) → BitClear 8 (r .status) → serviceBound c r contingency ≡ 0
+  pub s-flagged : OnLine r → BitSet 128 (r .flags) → LeastOnLine c shortTermReserve r (serviceBound c r onLineShortTerm)
+  pub s-clear : OnLine r → BitClear 128 (r .flags) → serviceBound c r onLineShortTerm ≡ 0
+  pub o-on-line : OnLine r → serviceBound c r offLineShortTerm ≡ 0
+  -- off-line: e, g, s 0; c and o the least of their limits, or 0 where the flag is clear
+  pub e-g-s-off-line : OffLine r → (serviceBound c r energy ≡ 0) × (serviceBound c r regulation ≡ 0) × (serviceBound c r onLineShortTerm ≡ 0)
+  pub c-off-line : OffLine r → BitSet 4 (r .flags) → LeastOf (r .economicMax ∷ r .offLineResponse ∷ SHARE c contingencyReserve ∷ []) (serviceBound c r contingency)
+  pub c-off-line-clear : OffLine r → BitClear 4 (r .flags) → serviceBound c r contingency ≡ 0
+  pub o-off-line : OffLine r → BitSet 8 (r .flags) → LeastOf (r .economicMax ∷ r .offLineShortTerm ∷ []) (serviceBound c r offLineShortTerm)
+  pub o-off-line-clear : OffLine r → BitClear 8 (r .flags) → serviceBound c r offLineShortTerm ≡ 0
+
+pub record AvailabilityInWords : Type 0 where
+  pub on-line : (r : Resource) → OnLineInWords r
+  pub limits : (r : Resource) → LimitsInWords r
+  pub bounds : (c : Case) (r : Resource) → BoundsInWords c r
+  pub bound-of-provided : (c : Case) (i : ℕ) (s : Service) → upperBound c (Provided i s) ≡ serviceBound c (c .resource i) s
+  -- a cleared quantity: its curve's widths together
+  pub bound-of-cleared : (c : Case) (k : Curve) → upperBound c (Cleared k) ≡ widthOf (c .curveWidth k) 4
