@@ -15,7 +15,7 @@ use Rattle.outcomes.specs.Checked.{Checked}
 use Rattle.nostwier.specs.Reported.{Reported}
 
 -- a refusal's number is never that of success
-numbered : (w : Refusal) → 0 < numberOf w
+pub numbered : (w : Refusal) → 0 < numberOf w
 numbered R.CaseLength = omega arith
 numbered R.CaseVersion = omega arith
 numbered R.Counts = omega arith

@@ -5,6 +5,7 @@ ghost use Rattle.market.specs.Refusals.{caseNumberOf, answerOf, countOf};
 ghost use Rattle.market.specs.Outcome.{caseAnswer, priceAnswer, priceBuffer, chargeAnswer, chargeBuffer};
 ghost use Rattle.market.specs.Numbers.{readCase, readCaseBuffer, readCertificate, readCertificateBuffer, writeCase, writeCaseBuffer, writeCertificate, writeCertificateBuffer};
 ghost use Rattle.nostwier.specs.Reported.{Reported};
+ghost use Rattle.nostwier.specs.Transferred.{NumbersRead, NumbersWritten};
 use market::Answer;
 use market::CaseAnswer;
 use market::CheckResult;
@@ -102,7 +103,7 @@ fn counted(answer: Transfer) -> Count
 // A case's numbers, every field but length and version in order.
 #[no_mangle]
 pub extern "C" fn nostwier_read_case(c: &[u8], out: &mut [i64]) -> Count
-    ensures { λ r. ⌜ (r ≡ countOf (readCase (now (c .entry)) (length (now (out .entry))))) × (now (out .exit) ≡ readCaseBuffer (now (c .entry)) (now (out .entry))) ⌝ }
+    ensures { λ r. ⌜ NumbersRead readCase readCaseBuffer writeCase writeCaseBuffer (now (c .entry)) (now (out .entry)) (now (out .exit)) r ⌝ }
 {
     counted(readings::read_case(c, out))
 }
@@ -110,7 +111,7 @@ pub extern "C" fn nostwier_read_case(c: &[u8], out: &mut [i64]) -> Count
 // A certificate's numbers.
 #[no_mangle]
 pub extern "C" fn nostwier_read_certificate(q: &[u8], out: &mut [i64]) -> Count
-    ensures { λ r. ⌜ (r ≡ countOf (readCertificate (now (q .entry)) (length (now (out .entry))))) × (now (out .exit) ≡ readCertificateBuffer (now (q .entry)) (now (out .entry))) ⌝ }
+    ensures { λ r. ⌜ NumbersRead readCertificate readCertificateBuffer writeCertificate writeCertificateBuffer (now (q .entry)) (now (out .entry)) (now (out .exit)) r ⌝ }
 {
     counted(readings::read_certificate(q, out))
 }
@@ -118,7 +119,7 @@ pub extern "C" fn nostwier_read_certificate(q: &[u8], out: &mut [i64]) -> Count
 // The case whose numbers are v.
 #[no_mangle]
 pub extern "C" fn nostwier_write_case(v: &[i64], out: &mut [u8]) -> Count
-    ensures { λ r. ⌜ (r ≡ countOf (writeCase (now (v .entry)) (length (now (out .entry))))) × (now (out .exit) ≡ writeCaseBuffer (now (v .entry)) (now (out .entry))) ⌝ }
+    ensures { λ r. ⌜ NumbersWritten readCase readCaseBuffer writeCase writeCaseBuffer (now (v .entry)) (now (out .entry)) (now (out .exit)) r ⌝ }
 {
     counted(writings::write_case(v, out))
 }
@@ -126,7 +127,7 @@ pub extern "C" fn nostwier_write_case(v: &[i64], out: &mut [u8]) -> Count
 // The certificate whose numbers are v.
 #[no_mangle]
 pub extern "C" fn nostwier_write_certificate(v: &[i64], out: &mut [u8]) -> Count
-    ensures { λ r. ⌜ (r ≡ countOf (writeCertificate (now (v .entry)) (length (now (out .entry))))) × (now (out .exit) ≡ writeCertificateBuffer (now (v .entry)) (now (out .entry))) ⌝ }
+    ensures { λ r. ⌜ NumbersWritten readCertificate readCertificateBuffer writeCertificate writeCertificateBuffer (now (v .entry)) (now (out .entry)) (now (out .exit)) r ⌝ }
 {
     counted(writings::write_certificate(v, out))
 }

@@ -1,12 +1,12 @@
 -- The answer of reading and the lent buffer afterwards, where the other grounds have decided; and that what was read is
 -- written back as the file.
 use mathlib.Core.Path.{_≡_, refl, sym, _∙_, ap}
-use mathlib.Core.List.{List, _++_}
-use Prim.Native.Nat.{ℕ, _+_, _<_, _≤_}
+use mathlib.Core.List.{List, [], _∷_, _++_}
+use Prim.Native.Nat.{ℕ, suc, _+_, _<_, _≤_}
 use native.Mathlib.Nat.{mul-le-mul}
 use native.Mathlib.Omega.{arith}
 use lib.IntN.{ℤ}
-use lib.ListN.{length, drop}
+use lib.ListN.{length, drop, getD}
 use Rattle.market.specs.declared.Refusal.{Refusal}
 use Rattle.market.specs.declared.Refusal.the-variants.{BufferShort}
 use Rattle.market.specs.declared.Counts.{Counts}
@@ -61,22 +61,27 @@ module _ (file : File) (b : List ℕ) (old : List ℤ) where
         (ap W.Written (sym many) ∙ r .0, k ∙ rw (← many, e) (r .1))
 
 -- ---- written back
+-- what a slice of u8 holds, of which each element is known to be below 256
+pub bytes-of : (b : List ℕ) → ((i : ℕ) → getD b i 0 < 256) → AreBytes b
+bytes-of [] h = tt
+bytes-of (x ∷ b) h = (h 0, bytes-of b (λ i. h (suc i)))
+
 written-back : (file : File) (writing : List ℤ → ℕ → Transfer) (writeBuffer : List ℤ → List ℕ → List ℕ)
     → ((b : List ℕ) → AreBytes b → AllClear (groundsOf file b) → (out : List ℕ) → length b ≤ length out →
     (writing (numbersOf (fieldsOf file) b) (length out) ≡ W.Written (length b)) × (writeBuffer (numbersOf (fieldsOf file) b) out ≡ b ++ drop (length b) out))
-    → (b : List ℕ) (old out : List ℤ) (r : Transfer) → r ≡ readFile file b (length old) → out ≡ readFileBuffer file b old → WrittenBack writing writeBuffer b out r
+    → (b : List ℕ) (old out : List ℤ) (r : Transfer) → AreBytes b → r ≡ readFile file b (length old) → out ≡ readFileBuffer file b old → WrittenBack writing writeBuffer b out r
 unfolding readFile readFileBuffer
-written-back file writing writeBuffer trip b old out r e k n w bytes lent l =
+written-back file writing writeBuffer trip b old out r bytes e k n w lent l =
     let g = received (groundsOf file b) (numbersOf (fieldsOf file) b) old n (sym e ∙ w) in
     rw (k, g .1) (trip b bytes (g .0) lent l)
 
 -- ---- the two operations
-pub case-read : (b : List ℕ) (old out : List ℤ) (r : Transfer) → (r ≡ readFile Case b (length old)) × (out ≡ readFileBuffer Case b old)
+pub case-read : (b : List ℕ) (old out : List ℤ) (r : Transfer) → AreBytes b → (r ≡ readFile Case b (length old)) × (out ≡ readFileBuffer Case b old)
     → (r ≡ readCase b (length old)) × (out ≡ readCaseBuffer b old) × WrittenBack writeCase writeCaseBuffer b out r
 unfolding readFile readFileBuffer readCase readCaseGrounds readCaseBuffer
-case-read b old out r h = (h .0, h .1, written-back Case writeCase writeCaseBuffer (round-trips .case-file .read-written) b old out r (h .0) (h .1))
+case-read b old out r bytes h = (h .0, h .1, written-back Case writeCase writeCaseBuffer (round-trips .case-file .read-written) b old out r bytes (h .0) (h .1))
 
-pub certificate-read : (q : List ℕ) (old out : List ℤ) (r : Transfer) → (r ≡ readFile Certificate q (length old)) × (out ≡ readFileBuffer Certificate q old)
+pub certificate-read : (q : List ℕ) (old out : List ℤ) (r : Transfer) → AreBytes q → (r ≡ readFile Certificate q (length old)) × (out ≡ readFileBuffer Certificate q old)
     → (r ≡ readCertificate q (length old)) × (out ≡ readCertificateBuffer q old) × WrittenBack writeCertificate writeCertificateBuffer q out r
 unfolding readFile readFileBuffer readCertificate readCertificateGrounds readCertificateBuffer
-certificate-read q old out r h = (h .0, h .1, written-back Certificate writeCertificate writeCertificateBuffer (round-trips .certificate-file .read-written) q old out r (h .0) (h .1))
+certificate-read q old out r bytes h = (h .0, h .1, written-back Certificate writeCertificate writeCertificateBuffer (round-trips .certificate-file .read-written) q old out r bytes (h .0) (h .1))

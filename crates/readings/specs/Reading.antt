@@ -11,7 +11,6 @@ use Rattle.market.specs.Bytes.{u8At}
 use Rattle.market.specs.Refusals.{Finding, firstOf, transferOf, bufferAfter}
 use Rattle.market.specs.Outcome.{caseGrounds, room}
 use Rattle.market.specs.Numbers.{numbersOf, certificateFileGrounds}
-use Rattle.market.specs.RoundTrips.{AreBytes}
 use Rattle.cases.specs.declared.Stage.{Stage}
 use Rattle.fields.specs.declared.File.{File}
 use Rattle.fields.specs.declared.File.the-variants.{Case, Certificate}
@@ -40,5 +39,5 @@ readFileBuffer file b old = bufferAfter (firstOf (groundsWith15 file b (length o
 -- its answer and the lent bytes afterwards, into any bytes that are enough.
 abbrev pub WrittenBack : (List ℤ → ℕ → Transfer) → (List ℤ → List ℕ → List ℕ) → List ℕ → List ℤ → Transfer → Type 0
 WrittenBack writing writeBuffer b buffer answer =
-    (n : ℕ) → answer ≡ W.Written n → AreBytes b → (out : List ℕ) → length b ≤ length out
+    (n : ℕ) → answer ≡ W.Written n → (out : List ℕ) → length b ≤ length out
     → (writing (take n buffer) (length out) ≡ W.Written (length b)) × (writeBuffer (take n buffer) out ≡ b ++ drop (length b) out)
