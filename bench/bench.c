@@ -4,8 +4,9 @@
  *   bench DIR    DIR/R-Z-F/N.case, N.cert and N.mps: accepted pairs of that size; DIR/refused/: pairs of any kind
  *
  * First every implementation must answer the same on every input. Then each call is timed by itself, and the
- * implementations take turns on each input. Prints tables in Markdown. Status 1 if answers differ or a bar is missed, 2 if
- * an input or a solver fails.
+ * implementations take turns on each input. What a bar compares takes turns in rounds, one of which gives both times and
+ * their ratio. Prints tables in Markdown. Status 1 if answers differ or a bar is missed, 2 if an input or a
+ * solver fails.
  */
 #define _GNU_SOURCE
 #include "baseline.h"
@@ -28,10 +29,12 @@ nostwier_answer reference_charges(const uint8_t *c, size_t cn, const uint8_t *q,
 enum {
     MOST_INPUTS = 4096,
     MOST_SAMPLES = 20000,
+    MOST_ROUNDS = 4000,
     ROOM = 2048, /* numbers of a buffer */
     ZONES = 8,   /* of every case that is timed */
     TIMED = 20,  /* pairs of a size, at most */
-    DAY = 288    /* intervals of five minutes */
+    DAY = 288,   /* intervals of five minutes */
+    DAYS = 200
 };
 
 __attribute__((noreturn, format(printf, 1, 2))) static void die(const char *format, ...)
@@ -137,18 +140,12 @@ CHECK_OF(reference)
 LIST_OF(nostwier, prices)
 LIST_OF(baseline, prices)
 LIST_OF(reference, prices)
-#ifdef NOSTWIER_HAS_CHARGES
 LIST_OF(nostwier, charges)
-#endif
 LIST_OF(baseline, charges)
 LIST_OF(reference, charges)
 
 static run *const runs[MAKERS][CALLS] = {
-    [LIBRARY] = {nostwier_checks, nostwier_lists_prices,
-#ifdef NOSTWIER_HAS_CHARGES
-                 nostwier_lists_charges
-#endif
-    },
+    [LIBRARY] = {nostwier_checks, nostwier_lists_prices, nostwier_lists_charges},
     [BASELINE] = {baseline_checks, baseline_lists_prices, baseline_lists_charges},
     [REFERENCE] = {reference_checks, reference_lists_prices, reference_lists_charges},
 };
@@ -186,8 +183,6 @@ static int same_answers(const inputs *all)
                 size_t needed = numbers(call, &all->of[i]), room = k == 2 ? needed + 7 : needed - (k == 1 && needed > 0);
                 const char *by = NULL;
                 for (int maker = 0; maker < MAKERS; maker++) {
-                    if (runs[maker][call] == NULL)
-                        continue;
                     lend(room);
                     runs[maker][call](&all->of[i]);
                     if (by == NULL) {
@@ -277,7 +272,7 @@ static void measure(const inputs *all, enum call call, int makers, double budget
         for (int i = 0; i < all->count; i++)
             for (int turn = 0; turn < makers; turn++) {
                 int maker = round % 2 == 0 ? turn : makers - 1 - turn;
-                if (runs[maker][call] == NULL || (maker == REFERENCE && round % 16 != 0))
+                if (maker == REFERENCE && round % 16 != 0)
                     continue;
                 touch(&all->of[i]);
                 double start = now();
@@ -290,20 +285,91 @@ static void measure(const inputs *all, enum call call, int makers, double budget
         out[maker] = times_of(&taken[maker]);
 }
 
+/* ---- Two calls compared. On a shared machine the clock's rate and other programs' turns change within milliseconds, so the
+ * two take turns within a round, and it is rounds that are compared. */
+
+typedef struct {
+    run *call;
+    const inputs *on;
+} side;
+
+typedef struct {
+    double of[2]; /* times of the two sides */
+} round_times;
+
+/* How they take turns: so many inputs of one side, then of the other; by which clock; whether inputs are brought into the
+ * cache before the clock is read; and how often all of that. */
+typedef struct {
+    int turn, touched, rounds;
+    clockid_t clock;
+} manner;
+
+static const manner single_calls = {1, 1, MOST_ROUNDS, CLOCK_MONOTONIC};
+/* In a row: two hours of the day in turn, by processor time, since other programs have their turns in it. */
+static const manner in_a_row = {24, 0, DAYS, CLOCK_PROCESS_CPUTIME_ID};
+
+static double turn_time(side side, int first, manner how)
+{
+    int end = first + how.turn < side.on->count ? first + how.turn : side.on->count;
+    for (int i = first; i < end && how.touched; i++)
+        touch(&side.on->of[i]);
+    double start = read_clock(how.clock);
+    for (int i = first; i < end; i++)
+        side.call(&side.on->of[i]);
+    return read_clock(how.clock) - start;
+}
+
+static int by_sum(const void *a, const void *b)
+{
+    const round_times *x = a, *y = b;
+    double left = x->of[0] + x->of[1], right = y->of[0] + y->of[1];
+    return (left > right) - (left < right);
+}
+
+static int by_ratio(const void *a, const void *b)
+{
+    const round_times *x = a, *y = b;
+    double left = x->of[0] * y->of[1], right = y->of[0] * x->of[1];
+    return (left > right) - (left < right);
+}
+
+/* The times, for one call on one input, of the round whose ratio is the median among the fastest quarter of all rounds, which
+ * other programs disturb least. The side that begins changes from turn to turn and from round to round. */
+static round_times in_turns(side a, side b, manner how)
+{
+    static round_times taken[MOST_ROUNDS];
+    const side sides[2] = {a, b};
+    if (a.on->count != b.on->count)
+        die("%d inputs beside %d", a.on->count, b.on->count);
+    lend(ROOM);
+    for (int round = -1; round < how.rounds; round++) {
+        round_times sum = {{0, 0}};
+        for (int first = 0; first < a.on->count; first += how.turn)
+            for (int k = 0; k < 2; k++) {
+                int which = (round + 1 + first / how.turn + k) % 2;
+                sum.of[which] += turn_time(sides[which], first, how) / a.on->count;
+            }
+        if (round >= 0)
+            taken[round] = sum;
+    }
+    qsort(taken, (size_t)how.rounds, sizeof *taken, by_sum);
+    qsort(taken, (size_t)how.rounds / 4, sizeof *taken, by_ratio);
+    return taken[how.rounds / 8];
+}
+
+static round_times to_baseline(const inputs *all, enum call call, manner how)
+{
+    return in_turns((side){runs[LIBRARY][call], all}, (side){runs[BASELINE][call], all}, how);
+}
+
 static void cell(times time)
 {
-    if (time.median == 0)
-        printf(" - |");
-    else
-        printf(" %.2f / %.2f |", time.median / 1e3, time.p99 / 1e3);
+    printf(" %.2f / %.2f |", time.median / 1e3, time.p99 / 1e3);
 }
 
 static void ratio(double a, double b)
 {
-    if (a == 0 || b == 0)
-        printf(" - |");
-    else
-        printf(" %.2f |", a / b);
+    printf(" %.2f |", a / b);
 }
 
 /* ---- Solvers. Only the solution of a programme that has been read is timed. */
@@ -369,22 +435,30 @@ static solved solve(const inputs *all, int rounds)
     return (solved){times_of(&glpk), times_of(&clp)};
 }
 
-/* ---- The stack: a call is made on one that is full of a pattern, and what it leaves of that is looked at. */
+/* ---- The stack: a call is made on one that is full of a pattern, and what it leaves of that is looked at, before anything
+ * else runs there. */
 
 enum { STACK = 1 << 20, PATTERN = 0xa5 };
 static ucontext_t caller, callee;
 static run *probed;
 static const input *probed_on;
+static uint8_t *stack;
+static size_t untouched;
+
+static void nothing(const input *in)
+{
+    (void)in;
+}
 
 static void probe(void)
 {
-    if (probed != NULL)
-        probed(probed_on);
+    probed(probed_on);
+    for (untouched = 0; untouched < STACK && stack[untouched] == PATTERN; untouched++)
+        ;
 }
 
 static size_t stack_used(run *f, const input *in)
 {
-    static uint8_t *stack;
     if (stack == NULL)
         stack = mmap(NULL, STACK, PROT_READ | PROT_WRITE, MAP_PRIVATE | MAP_ANONYMOUS, -1, 0);
     if (stack == MAP_FAILED)
@@ -397,45 +471,102 @@ static size_t stack_used(run *f, const input *in)
     callee.uc_link = &caller;
     makecontext(&callee, probe, 0);
     swapcontext(&caller, &callee);
-    size_t untouched = 0;
-    while (untouched < STACK && stack[untouched] == PATTERN)
-        untouched++;
     return STACK - untouched;
+}
+
+/* The other five of the eight calls. What is read of an input is what is written after it, and must be the same file. */
+static uint32_t refusal;
+static struct {
+    nostwier_count of;
+    int64_t numbers[NOSTWIER_MOST_CASE_NUMBERS];
+} held;
+static struct {
+    nostwier_count of;
+    uint8_t bytes[NOSTWIER_MOST_CASE_BYTES];
+} written;
+
+static void nostwier_checks_case(const input *in)
+{
+    refusal = nostwier_check_case(in->c, in->cn);
+}
+
+static void nostwier_reads_case(const input *in)
+{
+    held.of = nostwier_read_case(in->c, in->cn, held.numbers, NOSTWIER_MOST_CASE_NUMBERS);
+}
+
+static void nostwier_reads_certificate(const input *in)
+{
+    held.of = nostwier_read_certificate(in->q, in->qn, held.numbers, NOSTWIER_MOST_CASE_NUMBERS);
+}
+
+static void nostwier_writes_case(const input *in)
+{
+    (void)in;
+    written.of = nostwier_write_case(held.numbers, held.of.count, written.bytes, sizeof written.bytes);
+}
+
+static void nostwier_writes_certificate(const input *in)
+{
+    (void)in;
+    written.of = nostwier_write_certificate(held.numbers, held.of.count, written.bytes, sizeof written.bytes);
+}
+
+/* In this order, so that each file is read right before it is written. */
+enum file { NO_FILE, CASE_FILE, CERTIFICATE_FILE };
+static const struct {
+    const char *name;
+    run *call;
+    enum file writes;
+} eight[] = {
+    {"check of a case", nostwier_checks_case, NO_FILE},
+    {"check of a certificate", nostwier_checks, NO_FILE},
+    {"prices", nostwier_lists_prices, NO_FILE},
+    {"charges", nostwier_lists_charges, NO_FILE},
+    {"reading a case", nostwier_reads_case, NO_FILE},
+    {"writing a case", nostwier_writes_case, CASE_FILE},
+    {"reading a certificate", nostwier_reads_certificate, NO_FILE},
+    {"writing a certificate", nostwier_writes_certificate, CERTIFICATE_FILE},
+};
+
+static int succeeded(enum file writes, const input *in)
+{
+    const uint8_t *file = writes == CASE_FILE ? in->c : in->q;
+    size_t size = writes == CASE_FILE ? in->cn : in->qn;
+    if (refusal != 0 || given.result.refusal != 0 || given.answer.refusal != 0 || held.of.refusal != 0 || written.of.refusal != 0)
+        return 0;
+    return writes == NO_FILE || (written.of.count == size && memcmp(written.bytes, file, size) == 0);
 }
 
 /* ---- The tables. */
 
 static const int all_r[] = {1, 2, 4, 8, 16, 32, 64}, all_f[] = {0, 1, 2, 4, 8, 16};
+static const int some_r[] = {1, 8, 64}, some_f[] = {0, 16};
 #define LENGTH(list) ((int)(sizeof(list) / sizeof *(list)))
 
 static int missed;
 
-static void bar(const char *what, int met, const char *format, ...)
+static const char *verdict(int met)
 {
-    va_list arguments;
-    va_start(arguments, format);
-    printf("| %s | ", what);
-    vprintf(format, arguments);
-    printf(" | %s |\n", met ? "pass" : "MISS");
-    va_end(arguments);
     missed += !met;
+    return met ? "pass" : "MISS";
 }
 
-int main(int count, char **arguments)
+/* A bar on a ratio: the library's time, the other one and the ratio. */
+static void bar(const char *what, double most, const char *other, round_times pair, double unit, const char *name)
 {
-    static inputs all, day;
-    static const int some_r[] = {1, 8, 64}, some_f[] = {0, 16};
-    times of[MAKERS], check[65] = {{0, 0}};
-    times baseline_check = {0, 0};
-    solved again = {{0, 0}, {0, 0}};
-    int same = 1;
-    if (count != 2)
-        die("usage: bench DIR");
-    const char *folder = arguments[1];
-    glp_term_out(GLP_OFF);
+    double measured = pair.of[0] / pair.of[1];
+    printf("| %s at most %g times %s |", what, most, other);
+    printf(" %.2f %s | %.2f %s | %.2f | %s |\n", pair.of[0] / unit, name, pair.of[1] / unit, name, measured,
+           verdict(measured <= most));
+}
 
+static int equal_answers(const char *folder)
+{
+    static inputs all;
+    int same;
     take_inputs(&all, folder, "refused", MOST_INPUTS);
-    same &= same_answers(&all);
+    same = same_answers(&all);
     give_back(&all);
     for (int i = 0; i < LENGTH(all_r); i++)
         for (int j = 0; j < LENGTH(all_f); j++)
@@ -444,11 +575,13 @@ int main(int count, char **arguments)
                 same &= same_answers(&all);
                 give_back(&all);
             }
-    if (!same)
-        return 1;
-    printf("Before timing, %lu answers of library, baseline and reference were equal; %lu certificates of them are accepted, "
-           "the others refused.\n\n", compared, accepted);
+    return same;
+}
 
+static void table_of_calls(const char *folder)
+{
+    static inputs all;
+    times of[MAKERS];
     printf("Times are in microseconds: median / 99th percentile of single calls. Z is %d.\n\n", ZONES);
     printf("| call | R | F | library | baseline in C | reference | library : baseline | reference : library |\n");
     printf("|---|---|---|---|---|---|---|---|\n");
@@ -465,7 +598,14 @@ int main(int count, char **arguments)
                 putchar('\n');
                 give_back(&all);
             }
+}
 
+/* Returns the times of the check and of GLPK at R 64, F 16. */
+static round_times table_of_solvers(const char *folder)
+{
+    static inputs all;
+    times of[MAKERS];
+    round_times last = {{0, 0}};
     printf("\n| R | F | check | GLPK solves again | CLP solves again | GLPK : check | CLP : check |\n|---|---|---|---|---|---|---|\n");
     for (int i = 0; i < LENGTH(some_r); i++)
         for (int j = 0; j < LENGTH(some_f); j++) {
@@ -479,15 +619,16 @@ int main(int count, char **arguments)
             ratio(here.glpk.median, of[LIBRARY].median);
             ratio(here.clp.median, of[LIBRARY].median);
             putchar('\n');
-            if (some_r[i] == 64 && some_f[j] == 16) {
-                again = here;
-                check[64] = of[LIBRARY];
-                baseline_check = of[BASELINE];
-            }
+            last = (round_times){{of[LIBRARY].median, here.glpk.median}};
             give_back(&all);
         }
-    double for_solvers = check[64].median;
+    return last;
+}
 
+static void table_of_growth(const char *folder)
+{
+    static inputs all;
+    times of[MAKERS];
     printf("\nGrowth of the check with R (F 16), and with F (R 64):\n\n| R | F | library | baseline in C |\n|---|---|---|---|\n");
     for (int i = 0; i < LENGTH(all_r) + LENGTH(all_f) - 1; i++) {
         int r = i < LENGTH(all_r) ? all_r[i] : 64, f = i < LENGTH(all_r) ? 16 : all_f[i - LENGTH(all_r)];
@@ -497,54 +638,82 @@ int main(int count, char **arguments)
         cell(of[LIBRARY]);
         cell(of[BASELINE]);
         putchar('\n');
-        if (f == 16)
-            check[r] = of[LIBRARY];
         give_back(&all);
     }
+}
 
-    /* A day: the intervals one after the other, none a second time before all the others. */
+/* A day: the intervals one after the other, none a second time before all the others. Returns the check's times of all. */
+static round_times table_of_days(const inputs *day)
+{
+    round_times check = {{0, 0}};
+    printf("\n%d intervals in a row (R 64, F 16), in milliseconds, one of %d days:\n\n", DAY, DAYS);
+    printf("| call | library | baseline in C | library : baseline |\n|---|---|---|---|\n");
+    for (int call = CHECK; call < CALLS; call++) {
+        round_times one = to_baseline(day, call, in_a_row);
+        one = (round_times){{DAY * one.of[0], DAY * one.of[1]}};
+        printf("| %s | %.2f | %.2f |", call_names[call], one.of[0] / 1e6, one.of[1] / 1e6);
+        ratio(one.of[0], one.of[1]);
+        putchar('\n');
+        if (call == CHECK)
+            check = one;
+    }
+    return check;
+}
+
+/* Returns the deepest use of all. */
+static size_t table_of_stack(const inputs *day)
+{
+    size_t frame = stack_used(nothing, NULL), deepest[LENGTH(eight)] = {0}, most = 0;
+    lend(ROOM);
+    for (int i = 0; i < TIMED; i++)
+        for (int k = 0; k < LENGTH(eight); k++) {
+            size_t used = stack_used(eight[k].call, &day->of[i]) - frame;
+            if (!succeeded(eight[k].writes, &day->of[i]))
+                die("%s: %s does not succeed", day->of[i].name, eight[k].name);
+            deepest[k] = used > deepest[k] ? used : deepest[k];
+        }
+    printf("\nStack of each of the eight calls (R 64, F 16), in bytes, deepest on %d pairs:\n\n| call | bytes |\n|---|---|\n", TIMED);
+    for (int k = 0; k < LENGTH(eight); k++) {
+        printf("| %s | %zu |\n", eight[k].name, deepest[k]);
+        most = deepest[k] > most ? deepest[k] : most;
+    }
+    return most;
+}
+
+int main(int count, char **arguments)
+{
+    static inputs small, all, day;
+    if (count != 2)
+        die("usage: bench DIR");
+    const char *folder = arguments[1];
+    glp_term_out(GLP_OFF);
+    if (!equal_answers(folder))
+        return 1;
+    printf("Before timing, %lu answers of library, baseline and reference were equal; %lu certificates of them are accepted, "
+           "the others refused.\n\n", compared, accepted);
+
     take_size(&day, folder, 64, 16, DAY);
     if (day.count < DAY)
         die("fewer than %d pairs of R 64, F 16", DAY);
-    printf("\n%d intervals in a row (R 64, F 16), in milliseconds, median of 15 days:\n\n", DAY);
-    printf("| call | library | baseline in C |\n|---|---|---|\n");
-    lend(ROOM);
-    for (int call = CHECK; call < CALLS; call++) {
-        static samples days[2];
-        days[0].count = days[1].count = 0;
-        for (int turn = 0; turn < 30; turn++) {
-            if (runs[turn % 2][call] == NULL)
-                continue;
-            double start = processor_time();
-            for (int i = 0; i < DAY; i++)
-                runs[turn % 2][call](&day.of[i]);
-            add(&days[turn % 2], processor_time() - start);
-        }
-        printf("| %s |", call_names[call]);
-        for (int maker = 0; maker < 2; maker++) {
-            double median = times_of(&days[maker]).median;
-            if (median == 0)
-                printf(" - |");
-            else
-                printf(" %.2f |", median / 1e6);
-        }
-        putchar('\n');
-    }
+    take_size(&all, folder, 64, 16, TIMED);
+    take_size(&small, folder, 16, 16, TIMED);
+    table_of_calls(folder);
+    round_times glpk = table_of_solvers(folder);
+    table_of_growth(folder);
+    round_times row = table_of_days(&day);
+    size_t deepest = table_of_stack(&day);
 
-    size_t frame = stack_used(NULL, NULL), deepest = 0;
-    for (int call = CHECK; call < CALLS; call++)
-        for (int i = 0; i < 20 && runs[LIBRARY][call] != NULL; i++) {
-            size_t used = stack_used(runs[LIBRARY][call], &day.of[i]) - frame;
-            deepest = used > deepest ? used : deepest;
-        }
-
-    printf("\n| bar | measured | |\n|---|---|---|\n");
-    double to_baseline = for_solvers / baseline_check.median, to_glpk = again.glpk.median / for_solvers;
-    double growth = check[64].median / check[16].median;
-    bar("check at R 64, F 16 at most 1.5 times the baseline (aim 1.0)", to_baseline <= 1.5, "%.2f", to_baseline);
-    bar("check at R 64, F 16 at least 200 times faster than GLPK", to_glpk >= 200, "%.0f", to_glpk);
-    bar("check at R 64 at most 5 times that at R 16 (F 16)", growth <= 5, "%.2f", growth);
-    bar("less than 64 KiB of stack, deepest call", deepest < 65536, "%zu bytes", deepest);
+    printf("\n| bar | library | beside it | ratio | |\n|---|---|---|---|---|\n");
+    bar("check at R 64, F 16", 1.5, "the baseline (aim 1.0)", to_baseline(&all, CHECK, single_calls), 1e3, "µs");
+    bar("check, 288 intervals in a row (R 64, F 16),", 1.66, "the baseline", row, 1e6, "ms");
+    bar("charges at R 64, F 16", 1.5, "the baseline", to_baseline(&all, CHARGES, single_calls), 1e3, "µs");
+    bar("check at R 64", 5, "that at R 16 (F 16)",
+        in_turns((side){nostwier_checks, &all}, (side){nostwier_checks, &small}, single_calls), 1e3, "µs");
+    printf("| check at R 64, F 16 at least 200 times faster than GLPK | %.2f µs | %.2f µs | %.0f | %s |\n", glpk.of[0] / 1e3,
+           glpk.of[1] / 1e3, glpk.of[1] / glpk.of[0], verdict(glpk.of[1] >= 200 * glpk.of[0]));
+    printf("| less than 64 KiB of stack, deepest of the eight calls | %zu bytes | - | - | %s |\n", deepest, verdict(deepest < 65536));
+    give_back(&small);
+    give_back(&all);
     give_back(&day);
     return missed > 0;
 }
