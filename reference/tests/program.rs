@@ -2,7 +2,7 @@
 
 mod common;
 
-use nostwier_reference::damage::random_harm;
+use nostwier_reference::damage::{every_damage, random_harm};
 use nostwier_reference::generate::{pair_of_counts, Pair};
 use nostwier_reference::layout::Counts;
 use nostwier_reference::random::Random;
@@ -57,15 +57,15 @@ fn refusal(arguments: &[&str], input: &[u8]) -> String {
     text(&output.stdout)
 }
 
-/// The one line told of a fault of use, with status 2.
+/// What the one line tells of a fault of use, with status 2.
 fn fault(arguments: &[&str], input: &[u8]) -> String {
     let output = run(arguments, input);
     assert_eq!(output.status.code(), Some(2), "{arguments:?}");
     assert_eq!(text(&output.stdout), "", "{arguments:?}");
     let line = text(&output.stderr);
     assert_eq!(line.lines().count(), 1, "{arguments:?}: {line}");
-    assert!(line.starts_with("nostwier-reference: ") && line.ends_with('\n'));
-    line
+    let told = line.strip_prefix("nostwier-reference: ").expect("its own name");
+    told.strip_suffix('\n').expect("a whole line").to_string()
 }
 
 fn joined(pair: &Pair) -> Vec<u8> {
@@ -166,10 +166,11 @@ fn readers_and_writers_print_refusals() {
 #[test]
 fn text_that_is_no_number_is_a_fault() {
     for subcommand in ["write-case", "write-certificate"] {
-        assert!(fault(&[subcommand], b"1\none\n").contains("line 2"));
-        assert!(fault(&[subcommand], b"9223372036854775808\n").contains("line 1"));
-        assert!(fault(&[subcommand], b"1\n\n1\n").contains("line 2"));
-        assert!(fault(&[subcommand], &[0xff, 0xfe]).contains("not text"));
+        let no_number = |line| format!("line {line} is not a signed 64-bit number");
+        assert_eq!(fault(&[subcommand], b"1\none\n"), no_number(2));
+        assert_eq!(fault(&[subcommand], b"9223372036854775808\n"), no_number(1));
+        assert_eq!(fault(&[subcommand], b"1\n\n1\n"), no_number(2));
+        assert_eq!(fault(&[subcommand], &[0xff, 0xfe]), "standard input is not text");
     }
 }
 
@@ -180,12 +181,30 @@ fn every_subcommand_has_help_and_refuses_odd_arguments() {
         assert!(general.contains(subcommand));
         let help = text(&good(&[subcommand, "--help"], b""));
         assert!(help.starts_with(&format!("Usage: nostwier-reference {subcommand}")));
-        fault(&[subcommand, "--odd"], b"");
-        fault(&[subcommand, "--buffer", "many"], b"");
-        fault(&[subcommand, "--buffer"], b"");
+        let [odd, many, none] = [&["--odd"][..], &["--buffer", "many"], &["--buffer"]]
+            .map(|more| fault(&[&[subcommand][..], more].concat(), b""));
+        let wanted = match subcommand {
+            "generate" => ["generate wants SEED COUNT DIR; see generate --help"; 3],
+            "vectors" => [
+                "vectors wants SEED COUNT OPERATION..; see vectors --help",
+                "SEED is not an unsigned 64-bit number",
+                "vectors wants SEED COUNT OPERATION..; see vectors --help",
+            ],
+            "check" | "case" => [
+                "unexpected argument '--odd'",
+                "unexpected argument '--buffer'",
+                "unexpected argument '--buffer'",
+            ],
+            _ => [
+                "unexpected argument '--odd'",
+                "--buffer wants a number from 0 to 65536",
+                "--buffer wants a number",
+            ],
+        };
+        assert_eq!([odd, many, none], wanted, "{subcommand}");
     }
-    assert!(fault(&[], b"").contains("--help"));
-    assert!(fault(&["chek"], b"").contains("chek"));
+    assert_eq!(fault(&[], b""), "no subcommand; see --help");
+    assert_eq!(fault(&["chek"], b""), "no subcommand 'chek'; see --help");
 }
 
 #[test]
@@ -255,21 +274,31 @@ fn generate_keeps_to_its_options() {
     let directory = scratch("generate-systematic");
     let path = directory.to_str().expect("text");
     good(&["generate", "6", "1", path, "--systematic", "--size", "1", "1", "0"], b"");
-    assert!(std::fs::read_dir(&directory).expect("made").count() > 1000);
+    let counts = Counts { resources: 1, zones: 1, flowgates: 0 };
+    let damages = every_damage(&pair_of_counts(&mut Random::new(6), counts));
+    let made = std::fs::read_dir(&directory).expect("made").count();
+    assert_eq!(made, 2 * (damages.len() + 1));
 }
 
 #[test]
 fn generate_tells_what_is_wrong() {
     let directory = scratch("generate-wrong");
     let path = directory.to_str().expect("text");
-    assert!(fault(&["generate"], b"").contains("SEED COUNT DIR"));
-    assert!(fault(&["generate", "x", "1", path], b"").contains("SEED"));
-    assert!(fault(&["generate", "1", "-1", path], b"").contains("COUNT"));
-    assert!(fault(&["generate", "1", "1", path, "--size", "65", "1", "0"], b"").contains("64"));
-    assert!(fault(&["generate", "1", "1", path, "--size", "1"], b"").contains("--size"));
+    let wanted = "generate wants SEED COUNT DIR; see generate --help";
+    assert_eq!(fault(&["generate"], b""), wanted);
+    let wanted = "SEED is not an unsigned 64-bit number";
+    assert_eq!(fault(&["generate", "x", "1", path], b""), wanted);
+    let wanted = "COUNT is not a number from 0 to 4294967295";
+    assert_eq!(fault(&["generate", "1", "-1", path], b""), wanted);
+    let wanted = "--size wants 1 to 64 resources, 1 to 8 zones, 0 to 16 flowgates";
+    assert_eq!(fault(&["generate", "1", "1", path, "--size", "65", "1", "0"], b""), wanted);
+    let wanted = "--size wants three numbers";
+    assert_eq!(fault(&["generate", "1", "1", path, "--size", "1"], b""), wanted);
     assert!(!directory.exists());
     std::fs::create_dir_all(&directory).expect("made");
     let file = directory.join("taken");
     std::fs::write(&file, b"").expect("written");
-    assert!(fault(&["generate", "1", "1", file.to_str().expect("text")], b"").contains("taken"));
+    let why = std::fs::create_dir_all(&file).expect_err("a file is there");
+    let wanted = format!("cannot make '{}': {why}", file.display());
+    assert_eq!(fault(&["generate", "1", "1", file.to_str().expect("text")], b""), wanted);
 }

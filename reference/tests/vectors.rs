@@ -39,7 +39,9 @@ fn fault(arguments: &[&str]) -> String {
     let output = run(arguments);
     assert_eq!(output.status.code(), Some(2), "{arguments:?}");
     assert!(output.stdout.is_empty(), "{arguments:?}");
-    String::from_utf8(output.stderr).expect("text")
+    let line = String::from_utf8(output.stderr).expect("text");
+    let told = line.strip_prefix("nostwier-reference: ").expect("its own name");
+    told.strip_suffix('\n').expect("a whole line").to_string()
 }
 
 /// A directory of its own for one test, empty.
@@ -422,20 +424,29 @@ fn cases_are_small_and_large() {
 
 #[test]
 fn vectors_tell_what_is_wrong() {
-    assert!(fault(&[]).contains("SEED COUNT"));
-    assert!(fault(&["1", "1"]).contains("operation"));
-    assert!(fault(&["x", "1", "case"]).contains("SEED"));
-    assert!(fault(&["1", "-1", "case"]).contains("COUNT"));
-    assert!(fault(&["1", "1", "cases"]).contains("cases"));
-    assert!(fault(&["1", "1", "case", "case"]).contains("case"));
-    assert!(fault(&["1", "1", "case", "--corpus"]).contains("directory"));
+    for (arguments, wanted) in [
+        (&[][..], "vectors wants SEED COUNT OPERATION..; see vectors --help"),
+        (&["1", "1"], "vectors wants one operation at least; see vectors --help"),
+        (&["x", "1", "case"], "SEED is not an unsigned 64-bit number"),
+        (&["1", "-1", "case"], "COUNT is not a number from 0 to 4294967295"),
+        (&["1", "1", "cases"], "unexpected argument 'cases'"),
+        (&["1", "1", "case", "case"], "unexpected argument 'case'"),
+        (&["1", "1", "case", "--corpus"], "--corpus wants a directory"),
+    ] {
+        assert_eq!(fault(arguments), wanted);
+    }
     let directory = scratch("vectors-wrong");
     let path = directory.to_str().expect("text");
-    assert!(fault(&["1", "1", "case", "--corpus", path]).contains("NAME.case"));
+    let wanted = format!("no file NAME.case in '{path}'");
+    assert_eq!(fault(&["1", "1", "case", "--corpus", path]), wanted);
     std::fs::write(directory.join("a.case"), b"").expect("written");
-    assert!(fault(&["1", "1", "case", "--corpus", path]).contains("a.cert"));
+    let unread = |file: &PathBuf| {
+        let why = std::fs::read(file).expect_err("nothing is there");
+        format!("cannot read '{}': {why}", file.display())
+    };
+    let wanted = unread(&directory.join("a.cert"));
+    assert_eq!(fault(&["1", "1", "case", "--corpus", path]), wanted);
     let missing = directory.join("missing");
-    assert!(
-        fault(&["1", "1", "case", "--corpus", missing.to_str().expect("text")]).contains("missing")
-    );
+    let told = fault(&["1", "1", "case", "--corpus", missing.to_str().expect("text")]);
+    assert_eq!(told, unread(&missing));
 }
