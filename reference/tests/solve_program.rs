@@ -39,14 +39,15 @@ fn run(directory: &Path, arguments: &[&str]) -> Output {
         .expect("the program starts")
 }
 
-/// The one line told of a failure, with the given exit status.
+/// What the one line tells of a failure, with the given exit status.
 fn told(directory: &Path, arguments: &[&str], status: i32) -> String {
     let output = run(directory, arguments);
     assert_eq!(output.status.code(), Some(status), "{arguments:?}");
     assert_eq!(output.stdout, b"");
     let line = String::from_utf8(output.stderr).expect("text");
     assert_eq!(line.lines().count(), 1, "{arguments:?}: {line}");
-    line
+    let told = line.strip_prefix("nostwier-solve: ").expect("its own name");
+    told.strip_suffix('\n').expect("a whole line").to_string()
 }
 
 #[test]
@@ -185,25 +186,29 @@ fn wrong_use_is_told_in_a_line() {
     let directory = scratch("solve-wrong-use");
     std::fs::write(directory.join("k.case"), worked::pair().case_file()).expect("written");
     std::fs::write(directory.join("bad.case"), b"no case").expect("written");
-    for (arguments, status, part) in [
-        (&[][..], 2, "no CASE"),
-        (&["k.case"], 2, "no -o CERT"),
-        (&["-o", "k.cert"], 2, "no CASE"),
-        (&["k.case", "-o"], 2, "-o wants a value"),
-        (&["k.case", "k.case", "-o", "k.cert"], 2, "more than one CASE"),
-        (&["k.case", "-o", "k.cert", "--odd"], 2, "--odd"),
-        (&["k.case", "-o", "k.cert", "--solver", "abacus"], 2, "glpsol, clp or cbc"),
-        (&["k.case", "-o", "k.cert", "--seconds", "0"], 2, "--seconds"),
-        (&["none.case", "-o", "k.cert"], 2, "none.case"),
-        (&["bad.case", "-o", "k.cert"], 1, "refused 1"),
-        (&["k.case", "-o", "k.cert", "--keep", "k.case"], 2, "k.case"),
+    let missing = std::fs::read(directory.join("none.case")).expect_err("not there");
+    let taken = std::fs::create_dir_all(directory.join("k.case")).expect_err("a file is there");
+    let unstarted =
+        |solver, package| format!("cannot start {solver} (Debian's {package}): {missing}");
+    for (options, status, line) in [
+        ("", 2, "no CASE; see --help"),
+        ("k.case", 2, "no -o CERT; see --help"),
+        ("-o k.cert", 2, "no CASE; see --help"),
+        ("k.case -o", 2, "-o wants a value; see --help"),
+        ("k.case k.case -o k.cert", 2, "more than one CASE; see --help"),
+        ("k.case -o k.cert --odd", 2, "no option '--odd'; see --help"),
+        ("k.case -o k.cert --solver abacus", 2, "--solver wants glpsol, clp or cbc"),
+        ("k.case -o k.cert --seconds 0", 2, "--seconds wants a number above 0"),
+        ("none.case -o k.cert", 2, &format!("cannot read 'none.case': {missing}")),
+        ("bad.case -o k.cert", 1, "'bad.case' is no valid case: refused 1"),
+        ("k.case -o k.cert --keep k.case", 2, &format!("cannot make 'k.case': {taken}")),
         // The search path holds no solver.
-        (&["k.case", "-o", "k.cert"], 1, "cannot start glpsol (Debian's glpk-utils)"),
-        (&["k.case", "-o", "k.cert", "--solver", "clp"], 1, "coinor-clp"),
-        (&["k.case", "-o", "k.cert", "--solver", "cbc"], 1, "coinor-cbc"),
+        ("k.case -o k.cert", 1, &unstarted("glpsol", "glpk-utils")),
+        ("k.case -o k.cert --solver clp", 1, &unstarted("clp", "coinor-clp")),
+        ("k.case -o k.cert --solver cbc", 1, &unstarted("cbc", "coinor-cbc")),
     ] {
-        let line = told(&directory, arguments, status);
-        assert!(line.contains(part), "{arguments:?}: {line}");
+        let arguments: Vec<&str> = options.split_whitespace().collect();
+        assert_eq!(told(&directory, &arguments, status), line, "{options}");
     }
     assert!(!directory.join("k.cert").exists());
 }
@@ -228,23 +233,28 @@ fn with_stand_ins(name: &str, script: &str) -> PathBuf {
 #[cfg(unix)]
 #[test]
 fn odd_answers_of_a_solver_are_told_in_a_line() {
-    for (index, (script, part)) in [
-        ("exit 3", "failed"),
-        ("exit 0", "left no answer"),
-        ("echo > $answer", "cannot read the answer"),
-        ("printf '\\377\\376' > $answer", "left no answer"),
-        ("echo 's bas 14 30 f f 0' > $answer", "cannot read the answer"),
-        ("echo 'Optimal - objective value 0' > $answer; echo '0 R1' >> $answer", "cannot read"),
-        ("echo 'Optimal' > $answer; echo '0 R99999 0 0' >> $answer", "cannot read the answer"),
-        ("echo 'Optimal' > $answer; echo '0 C1 nan 0' >> $answer", "cannot read the answer"),
+    const UNREAD: &str = "cannot read the answer of SOLVER";
+    let missing = std::fs::read(scratch("solve-odd").join("none")).expect_err("not there");
+    for (index, (script, line)) in [
+        ("exit 3", "SOLVER failed (exit status: 3)"),
+        ("exit 0", &format!("SOLVER left no answer: {missing}")),
+        ("echo > $answer", UNREAD),
+        (
+            "printf '\\377\\376' > $answer",
+            "SOLVER left no answer: stream did not contain valid UTF-8",
+        ),
+        ("echo 's bas 14 30 f f 0' > $answer", UNREAD),
+        ("echo 'Optimal - objective value 0' > $answer; echo '0 R1' >> $answer", UNREAD),
+        ("echo 'Optimal' > $answer; echo '0 R99999 0 0' >> $answer", UNREAD),
+        ("echo 'Optimal' > $answer; echo '0 C1 nan 0' >> $answer", UNREAD),
     ]
     .into_iter()
     .enumerate()
     {
         let directory = with_stand_ins(&format!("solve-odd-{index}"), script);
         for solver in ["glpsol", "clp", "cbc"] {
-            let line = told(&directory, &["k.case", "-o", "k.cert", "--solver", solver], 1);
-            assert!(line.contains(part), "{script}: {line}");
+            let told = told(&directory, &["k.case", "-o", "k.cert", "--solver", solver], 1);
+            assert_eq!(told, line.replace("SOLVER", solver), "{script}");
         }
         assert!(!directory.join("k.cert").exists());
     }
@@ -256,7 +266,8 @@ fn an_answer_too_far_from_any_schedule_is_told() {
     // All zero: nothing near it meets demand.
     let directory = with_stand_ins("solve-far", "echo 'Optimal' > $answer");
     let line = told(&directory, &["k.case", "-o", "k.cert", "--solver", "clp"], 1);
-    assert!(line.contains("no whole-kW schedule was found"), "{line}");
+    let wanted = "no whole-kW schedule was found near the solver's; row 1 stays broken";
+    assert_eq!(line, wanted);
 }
 
 #[test]
