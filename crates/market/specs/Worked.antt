@@ -1,12 +1,12 @@
--- (a) to (l) of the worked interval, one list under one statement; and each refusal number on its own ground
--- (01, 'Worked interval', 'How each operation refuses').
+-- (a) to (l) of the worked interval, one list under one statement; each refusal number on its own ground; and the order of
+-- prices and charges (01, 'Worked interval', 'How each operation refuses', 'Certificate, cost, bound, charges').
 use mathlib.Core.Bool.{Bool, true, false, cond, _&&_}
 use mathlib.Core.List.{List, [], _∷_, _++_, map}
 use Prim.Native.Nat.{ℕ, _+_}
 use lib.Dec.{T}
 use lib.Signed.{leZ}
 use lib.ListN.{take}
-use lib.IntN.{ℤ, pos}
+use lib.IntN.{ℤ, pos, negℤ}
 use Rattle.arith.specs.Sums.{all}
 use Rattle.market.specs.declared.CaseAnswer.{CaseAnswer}
 use Rattle.market.specs.declared.CheckResult.{CheckResult}
@@ -17,7 +17,8 @@ use Rattle.market.specs.CaseFile.{caseOf}
 use Rattle.market.specs.Availability.{onLine}
 use Rattle.market.specs.UpperBounds.{RAMP}
 use Rattle.market.specs.Certificate.{certificateOf}
-use Rattle.market.specs.Prices.{LMP}
+use Rattle.market.specs.Charges.{charges}
+use Rattle.market.specs.Prices.{LMP, priceList}
 use Rattle.market.specs.Refusals.{caseNumberOf, resultOf, answerOf, countOf}
 use Rattle.market.specs.Outcome.{caseAnswer, outcome, priceAnswer, chargeAnswer}
 use Rattle.market.specs.Numbers.{u16Bytes, u32Bytes, caseNumbers, certificateNumbers, readCase, readCertificate, writeCase, writeCertificate}
@@ -96,6 +97,7 @@ abbrev pub refusals : List Example
 refusals =
     record { given = numbered (caseAnswer K); says = pos 0 ∷ [] }
     ∷ record { given = numbered (caseAnswer (take 169 K)); says = pos 1 ∷ [] }
+    ∷ record { given = numbered (caseAnswer (change 0 (u32Bytes 165) (take 169 K))) ++ numbered (caseAnswer (change 0 (u32Bytes 166) (take 170 K))); says = pos 1 ∷ pos 4 ∷ [] }
     ∷ record { given = numbered (caseAnswer (change 4 (2 ∷ []) K)); says = pos 2 ∷ [] }
     ∷ record { given = numbered (caseAnswer (change 6 (9 ∷ []) K)); says = pos 3 ∷ [] }
     ∷ record { given = numbered (caseAnswer (change 0 (u32Bytes 337) K ++ (0 ∷ []))); says = pos 4 ∷ [] }
@@ -104,6 +106,7 @@ refusals =
     ∷ record { given = numbered (caseAnswer (change (resourceOfK + 10) (u32Bytes 100001) K)); says = pos 7 ∷ [] }
     ∷ record { given = numbered (caseAnswer fiveToSeven) ++ numbered (caseAnswer sixAndSeven); says = pos 5 ∷ pos 6 ∷ [] }
     ∷ record { given = run K (take 43 Q); says = refused 8 0 }
+    ∷ record { given = run K (change 0 (u32Bytes 39) (take 43 Q)) ++ run K (change 0 (u32Bytes 40) (take 44 Q)); says = refused 8 0 ++ refused 11 0 }
     ∷ record { given = run K (change 4 (2 ∷ []) Q); says = refused 9 0 }
     ∷ record { given = run K (change 5 (2 ∷ []) Q); says = refused 10 0 }
     ∷ record { given = run K (change 0 (u32Bytes 97) Q ++ (0 ∷ [])); says = refused 11 0 }
@@ -116,7 +119,33 @@ refusals =
     ∷ record { given = counted (countOf (readCertificate Q 26)) ++ counted (countOf (readCertificate (change 5 (65 ∷ []) Q) 26)); says = pos 0 ∷ pos 26 ∷ pos 3 ∷ pos 0 ∷ [] }
     ∷ record { given = counted (countOf (writeCase (caseNumbers K) 340)) ++ counted (countOf (writeCase (take 94 (caseNumbers K)) 340)); says = pos 0 ∷ pos 340 ∷ pos 16 ∷ pos 0 ∷ [] }
     ∷ record { given = counted (countOf (writeCertificate (certificateNumbers Q) 99)) ++ counted (countOf (writeCertificate (pos 1 ∷ pos 1 ∷ []) 99)); says = pos 15 ∷ pos 0 ∷ pos 16 ∷ pos 0 ∷ [] }
+    -- F 17 and a list too short
+    ∷ record { given = counted (countOf (writeCase (pos 1 ∷ pos 1 ∷ pos 17 ∷ []) 340)); says = pos 3 ∷ pos 0 ∷ [] }
     ∷ record { given = bytesOf (printed (zeros 32769)); says = bytesOf (114 ∷ 101 ∷ 102 ∷ 117 ∷ 115 ∷ 101 ∷ 100 ∷ 32 ∷ 49 ∷ 55 ∷ 10 ∷ []) }
+    ∷ []
+
+-- rows 2 to 9 at 1, 10, 100, 1000, 2, 20, 200, 2000, row 1 at 2,500,000; g, c, s, o 1, 1, 1, 2
+abbrev pub pricedQ : List ℕ
+pricedQ =
+    change 28 (u32Bytes 1 ++ u32Bytes 10 ++ u32Bytes 100 ++ u32Bytes 1000 ++ u32Bytes 2 ++ u32Bytes 20 ++ u32Bytes 200 ++ u32Bytes 2000)
+    (change 64 (u32Bytes 1 ++ u32Bytes 1 ++ u32Bytes 1 ++ u32Bytes 2) (row1To 2500000 Q))
+
+-- LMP, then the zone's regulating, spinning, supplemental, short-term
+abbrev pub pricesInOrder : List ℤ
+pricesInOrder = pos 2500000 ∷ pos 333 ∷ pos 33 ∷ pos 3 ∷ pos 3000 ∷ []
+
+-- rows; ten steps, g, c, s, o; sixteen curve steps
+abbrev pub chargesInOrder : List ℤ
+chargesInOrder =
+    (pos 0 ∷ pos 2 ∷ pos 10 ∷ pos 100 ∷ pos 3000 ∷ pos 4 ∷ pos 20 ∷ pos 200 ∷ pos 6000 ∷ bytesOf (zeros 5))
+    ++ (pos 0 ∷ pos 10000000000 ∷ bytesOf (zeros 8))
+    ++ (negℤ (pos 333) ∷ negℤ (pos 3) ∷ negℤ (pos 3000) ∷ negℤ (pos 6000) ∷ bytesOf (zeros 16))
+
+-- what the calls for prices and for charges write
+abbrev pub orders : List Example
+orders =
+    record { given = priceList (caseOf K) (certificateOf pricedQ .price); says = pricesInOrder }
+    ∷ record { given = charges (caseOf K) (certificateOf pricedQ .amount) (certificateOf pricedQ .price); says = chargesInOrder }
     ∷ []
 
 unfoldable pub same : List ℤ → List ℤ → Bool
