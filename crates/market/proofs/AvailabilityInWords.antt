@@ -1,4 +1,4 @@
--- On-line kind by kind, limits and upper bounds flag by flag.
+-- On-line kind by kind; limits, upper bounds and spin flag by flag.
 use mathlib.Core.Bool.{Bool, true, false, _||_}
 use mathlib.Core.List.{[], _∷_}
 use mathlib.Core.Logic.{_⊎_, inl, inr}
@@ -14,7 +14,8 @@ use Rattle.market.specs.Case.{Case, Resource, Reserve, contingencyReserv
 use Rattle.market.specs.Availability.{onLine}
 use Rattle.market.specs.Limits.{MAX, MIN, HI, LO}
 use Rattle.market.specs.UpperBounds.{contingency, RAMP, SHARE, onLineBound, serviceBound, upperBound}
-use Rattle.market.specs.AvailabilityInWords.{BitSet, OnLine, Closed, OneOf, LeastOf, LargestOf, LeastOnLine, OnLineInWords, LimitsInWords, BoundsInWords, AvailabilityInWords}
+use Rattle.market.specs.Rows.{none, one, spins}
+use Rattle.market.specs.AvailabilityInWords.{BitSet, OnLine, Closed, OneOf, LeastOf, LargestOf, LeastOnLine, OnLineInWords, LimitsInWords, BoundsInWords, SpinInWords, AvailabilityInWords}
 use Rattle.market.proofs.Tests.{Decides, true-exactly, reworded, both, either, eq-test, lt-test, leℤ-test, ltℤ-test}
 
 -- ---- on-line
@@ -161,6 +162,10 @@ bounds-in-words c r =
       o-off-line-clear = λ e h. rw (e, h);
     }
 
+spin-in-words : (r : Resource) → SpinInWords r
+unfolding spins none one
+spin-in-words r = record { spin-flagged = λ e h. rw (e, h); spin-clear = λ e h. rw (e, h); spin-off-line = λ e. rw e }
+
 pub availability-in-words : AvailabilityInWords
 unfolding upperBound
 availability-in-words =
@@ -168,6 +173,7 @@ availability-in-words =
       on-line = on-line-in-words;
       limits = limits-in-words;
       bounds = bounds-in-words;
+      spin = spin-in-words;
       bound-of-provided = λ c i s. refl;
       bound-of-cleared = λ c k. refl;
     }

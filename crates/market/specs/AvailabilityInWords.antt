@@ -1,5 +1,5 @@
--- On-line, MAX, MIN, HI, LO and the upper bounds in the words of 01 ('Before the rows'), with the value of each status bit
--- and flag where it is used.
+-- On-line, MAX, MIN, HI, LO, the upper bounds and spin in the words of 01 ('Before the rows', 'Rows'), with the value of each
+-- status bit and flag where it is used.
 use mathlib.Core.Bool.{true, false}
 use mathlib.Core.List.{List, [], _∷_}
 use mathlib.Core.Logic.{_↔_, _⊎_}
@@ -12,6 +12,7 @@ use Rattle.market.specs.Case.{Case, Resource, Curve, Reserve, regulating
 use Rattle.market.specs.Availability.{onLine}
 use Rattle.market.specs.Limits.{MAX, MIN, HI, LO}
 use Rattle.market.specs.UpperBounds.{Service, energy, regulation, contingency, onLineShortTerm, offLineShortTerm, Cleared, Provided, RAMP, SHARE, serviceBound, upperBound}
+use Rattle.market.specs.Rows.{spins}
 
 -- the bit of value v is 1, or 0, in n
 abbrev pub BitSet : ℕ → ℕ → Type 0
@@ -94,10 +95,17 @@ pub record BoundsInWords (c : Case) (r : Resource) : Type 0 where
   pub o-off-line : OffLine r → BitSet 8 (r .flags) → LeastOf (r .economicMax ∷ r .offLineShortTerm ∷ []) (serviceBound c r offLineShortTerm)
   pub o-off-line-clear : OffLine r → BitClear 8 (r .flags) → serviceBound c r offLineShortTerm ≡ 0
 
+-- ---- spin is c of an on-line resource with flag 2
+pub record SpinInWords (r : Resource) : Type 0 where
+  pub spin-flagged : OnLine r → BitSet 2 (r .flags) → spins r ≡ pos 1
+  pub spin-clear : OnLine r → BitClear 2 (r .flags) → spins r ≡ pos 0
+  pub spin-off-line : OffLine r → spins r ≡ pos 0
+
 pub record AvailabilityInWords : Type 0 where
   pub on-line : (r : Resource) → OnLineInWords r
   pub limits : (r : Resource) → LimitsInWords r
   pub bounds : (c : Case) (r : Resource) → BoundsInWords c r
+  pub spin : (r : Resource) → SpinInWords r
   pub bound-of-provided : (c : Case) (i : ℕ) (s : Service) → upperBound c (Provided i s) ≡ serviceBound c (c .resource i) s
   -- a cleared quantity: its curve's widths together
   pub bound-of-cleared : (c : Case) (k : Curve) → upperBound c (Cleared k) ≡ widthOf (c .curveWidth k) 4
