@@ -16,7 +16,7 @@ use Rattle.market.specs.Rows.{Sense, equal, atLeast, Meets}
 use Rattle.market.specs.Refusals.{Finding, clear, holds, unless, firstFailing, firstOf, FirstHolds, AllClear}
 use Rattle.market.specs.Outcome.{meets}
 
-not-clear : {A : Type 0} (r : Refusal) → holds r ≡ clear → A
+pub not-clear : {A : Type 0} (r : Refusal) → holds r ≡ clear → A
 not-clear r h = absurd (let z : _≡_ {A = ℕ} 0 1 = cc in omega arith)
 
 -- ---- none holds
@@ -73,3 +73,7 @@ module _ {A : Type 0} (f : A → Bool) (r : ℕ → Refusal) where
 pub meets-Meets : (s : Sense) (v : ℤ) → T (meets s v) → Meets s v
 meets-Meets equal v h = let r = and-split (leZ (pos 0) v) (leZ v (pos 0)) h in ≤ℤ-antisymm (record { le = r .1 }) (record { le = r .0 })
 meets-Meets atLeast v h = record { le = h }
+
+pub Meets-meets : (s : Sense) (v : ℤ) → Meets s v → T (meets s v)
+Meets-meets equal v h = rw h tt
+Meets-meets atLeast v h = h .le

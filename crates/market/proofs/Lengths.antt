@@ -1,4 +1,4 @@
--- How many rows, priced quantities, charges and prices a case has.
+-- How many rows, quantities, priced quantities, charges and prices a case has.
 use mathlib.Core.Path.{_≡_, refl}
 use mathlib.Core.List.{_++_, map}
 use native.Mathlib.Omega.{arith}
@@ -7,7 +7,7 @@ use lib.ListN.{length, length-append, length-map}
 use Rattle.arith.specs.Sums.{upto, across}
 use Rattle.arith.proofs.Lists.{length-across, length-upto}
 use Rattle.market.specs.Case.{Case, curves, energySteps, curveSteps}
-use Rattle.market.specs.UpperBounds.{Schedule, reserveServices}
+use Rattle.market.specs.UpperBounds.{Schedule, reserveServices, services, Provided, quantities}
 use Rattle.market.specs.Rows.{rows, Zone, Flowgate, Limited, limits, marketRows, zoneRows, flowgateRows, limitRows}
 use Rattle.market.specs.Certificate.{Prices}
 use Rattle.market.specs.Cost.{priced, pricedOf, curvePriced, EnergyStep, Whole, CurveStep}
@@ -28,6 +28,10 @@ row-count c =
       length-across (λ i. map (Limited i) limits) 5 (λ i. length-map limits (Limited i)) (upto (c .resources)),
       length-upto (c .resources),
     )
+
+pub quantity-count : (c : Case) → length (quantities c) ≡ 4 + c .resources * 5
+unfolding quantities
+quantity-count c = omega (arith, length-across (λ i. map (Provided i) services) 5 (λ i. length-map services (Provided i)) (upto (c .resources)), length-upto (c .resources))
 
 resource-priced : (i : ℕ) → length (pricedOf i) ≡ 14
 resource-priced i = omega (arith, length-append (map (EnergyStep i) (upto energySteps)) (map (Whole i) reserveServices), length-map (upto energySteps) (EnergyStep i), length-upto energySteps)

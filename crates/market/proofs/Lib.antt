@@ -1,6 +1,8 @@
 pub mod Computed
 pub mod Grounds
 pub mod LentBuffer
+pub mod RefusedPlaces
+pub mod RefusalText
 pub mod Refused
 pub mod Steps
 pub mod Entries

@@ -118,6 +118,9 @@ pub record PriceRanges (c : Case) (y : Prices) : Type 0 where
 size-of : (n : ℕ) (v : ℤ) → EitherWay n v → Size v n
 size-of n v h = size-between n v (h .0) (h .1)
 
+pub count-ranges : (c : Case) → T (countsRight (c .resources) (c .zones) (c .flowgates)) → CountRanges c
+count-ranges c h = let n = check-in-words .counts (c .resources) (c .zones) (c .flowgates) .0 h in record { most-resources = n .0 .1; most-zones = n .1 .1; most-flowgates = n .2 }
+
 reserve-ranges : (c : Case) (p : Reserve) → ReserveWithin c p → ReserveRanges c p
 reserve-ranges c p h =
     record {
@@ -174,7 +177,7 @@ case-ranges c counts fields steps pairs =
     let s = check-in-words .steps c .0 steps in
     let o = check-in-words .pairs c .0 pairs in
     record {
-      counts = record { most-resources = n .0 .1; most-zones = n .1 .1; most-flowgates = n .2 };
+      counts = count-ranges c counts;
       resources-from = n .0 .0;
       zones-from = n .1 .0;
       demand-to = h .demand-within;

@@ -18,7 +18,7 @@ use Rattle.market.specs.UpperBounds.{Provided, services}
 use Rattle.market.specs.Certificate.{Certificate, certificateOf}
 use Rattle.market.specs.Prices.{LMP, zonePrices}
 use Rattle.market.specs.Refusals.{numberOf, placeOf, Finding, clear, holds, unless}
-use Rattle.market.specs.Outcome.{outcome}
+use Rattle.market.specs.Outcome.{grounds, outcome}
 
 -- ---- text
 -- n in decimal, in front of the bytes of tail; fuel bounds its digits
@@ -95,6 +95,9 @@ mostInput = 32768
 -- 17 comes before all others
 abbrev pub inputGround : List ℕ → Finding
 inputGround input = unless (leb (length input) mostInput) InputLength
+
+abbrev pub programGrounds : List ℕ → List Finding
+programGrounds input = inputGround input ∷ grounds (caseIn input) (certificateIn input)
 
 abbrev pub printedOf : List ℕ → Finding → List ℕ
 printedOf input clear = report (caseOf (caseIn input)) (certificateOf (certificateIn input)) (outcome (caseIn input) (certificateIn input))
