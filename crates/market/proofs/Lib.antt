@@ -3,6 +3,7 @@ pub mod Grounds
 pub mod LentBuffer
 pub mod RefusedPlaces
 pub mod RefusalText
+pub mod PrintedRefusal
 pub mod Refused
 pub mod Steps
 pub mod Entries

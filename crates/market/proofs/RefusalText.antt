@@ -8,7 +8,6 @@ use native.Mathlib.Nat.{pow-suc}
 use native.Mathlib.Decide.{decLt}
 use native.Mathlib.Omega.{arith}
 use lib.Dec.{ltb}
-use lib.IntN.{pos}
 use lib.ListN.{length, getD, drop}
 use borrow.Author.Tests.{lt-ltb, le-ltb}
 use Rattle.market.specs.declared.Refusal.{Refusal}
@@ -82,7 +81,7 @@ digits-same (suc fuel) m n t u l s =
     digits-step (suc fuel) m n t u s (λ h. digits-same fuel (m / 10) (n / 10) ((48 + n % 10) ∷ t) ((48 + m % 10) ∷ u) (omega (arith, pow-suc 10 (suc fuel))) (omega arith))
 
 -- ---- places
--- no place that can be found needs twenty digits
+-- the least number of twenty digits
 abbrev pub twentyDigits : ℕ
 twentyDigits = 10 ^ 19
 

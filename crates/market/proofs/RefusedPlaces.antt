@@ -2,11 +2,11 @@
 use mathlib.Core.Path.{_≡_, refl, sym, _∙_, ap}
 use mathlib.Core.Bool.{Bool, true, false}
 use mathlib.Core.List.{List, [], _∷_, _++_}
-use mathlib.Core.Logic.{_↔_}
-use Prim.Native.Nat.{ℕ, suc, _+_, _<_, _≤_}
+use mathlib.Core.Logic.{_↔_, Iff·trans}
+use Prim.Native.Nat.{ℕ, suc, _+_, _<_}
 use native.Mathlib.Nat.{add-zero}
 use native.Mathlib.Omega.{arith}
-use lib.Dec.{T, leb, eqb}
+use lib.Dec.{T, eqb}
 use lib.ListN.{length, take}
 use borrow.Author.Tests.{leb-true, leb-false, le-leb, lt-leb}
 use Rattle.arith.specs.Sums.{Each, all}
@@ -16,12 +16,12 @@ use Rattle.market.specs.declared.Refusal.the-variants.{CaseLength, CaseV
 use Rattle.market.specs.Case.{Case}
 use Rattle.market.specs.CaseFile.{caseOf}
 use Rattle.market.specs.CaseCheck.{lengthRight, versionRight, countsRight, caseSizeRight, fieldsInRange, stepsRule, limitsOrdered}
-use Rattle.market.specs.UpperBounds.{Quantity, quantities, upperBound}
-use Rattle.market.specs.Rows.{Row, rows, sense, slack}
+use Rattle.market.specs.UpperBounds.{quantities, upperBound}
+use Rattle.market.specs.Rows.{rows, sense, slack}
 use Rattle.market.specs.Certificate.{Certificate, certificateOf, certificateSize}
 use Rattle.market.specs.Refusals.{Finding, clear, holds, unless, numberOf, firstFailing, firstOf, FirstHolds, AllClear}
 use Rattle.market.specs.Outcome.{caseGrounds, certificateGrounds, grounds, sameCounts, priceRight, withinBound, rowMet}
-use Rattle.market.specs.RefusedExactly.{FirstAt, AboveItsBound, WithinItsBound, IsMet, IsBroken, AboveBoundAt, RowBrokenAt}
+use Rattle.market.specs.RefusedExactly.{FirstAt, AboveItsBound, WithinItsBound, IsMet, IsBroken, AboveBoundAt, RowBrokenAt, PlacesExactly}
 use Rattle.market.proofs.Grounds.{not-clear, holds-first, meets-Meets, Meets-meets}
 use Rattle.market.proofs.FirstFailing.{passes, fails}
 
@@ -83,7 +83,7 @@ module _ {A : Type 0} {f : A → Bool} {Fails Passes : A → Type 0} (t : Tests 
   first-failing-at n p xs = (first-at n p xs, at-first n p xs)
 
 -- ---- grounds in the order of their numbers
-abbrev pub Below : ℕ → Finding → Type 0
+abbrev Below : ℕ → Finding → Type 0
 Below n clear = Unit {0}
 Below n (holds r) = numberOf r < n
 
@@ -110,7 +110,7 @@ module _ (r : Refusal) where
   only-there (clear ∷ gs) g after u v h = let t = only-there gs g after (u .1) v h in ((refl, t .0), t .1)
   only-there (holds s ∷ gs) g after u v h = absurd (omega (arith, u .0, same-number s h))
 
-  pub only-this : (before : List Finding) (g : Finding) (after : List Finding) → Each (Below (numberOf r)) before → Each (Beyond (numberOf r)) after →
+  only-this : (before : List Finding) (g : Finding) (after : List Finding) → Each (Below (numberOf r)) before → Each (Beyond (numberOf r)) after →
       FirstHolds (before ++ (g ∷ after)) r ↔ (AllClear before × (g ≡ holds r))
   only-this before g after u v = (
     (λ h. only-there before g after u v (holds-first (before ++ (g ∷ after)) r h)),
@@ -213,3 +213,12 @@ module _ (b q : List ℕ) where
         let this = only-this (RowBroken p) (take 13 (grounds b q)) rowGround later before-14 beyond in
         let at = first-failing-at (rows-tested c k) RowBroken (λ m n e. cc) 1 p (rows c) in
         ((λ h. let t = this .0 h in record { none-earlier = t .0; first-broken = at .0 (t .1) }), (λ h. this .1 (h .none-earlier, at .1 (h .first-broken))))
+
+-- ---- of an operation whose grounds begin with 1 to 14
+pub places : {A : Type 0} (b q : List ℕ) (later : List Finding) → Each (Beyond 14) later
+    → {answer : A} {refused : Refusal → A} → ((r : Refusal) → (answer ≡ refused r) ↔ FirstHolds (grounds b q ++ later) r) → PlacesExactly b q answer refused
+places b q later beyond h =
+    record {
+      above-bound = λ p. Iff·trans (h (AboveBound p)) (above-bound-at b q later beyond p);
+      row-broken = λ p. Iff·trans (h (RowBroken p)) (row-broken-at b q later beyond p);
+    }

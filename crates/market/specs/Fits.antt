@@ -13,7 +13,7 @@ use Rattle.market.specs.UpperBounds.{quantities, Schedule}
 use Rattle.market.specs.Rows.{rows, coefficient, rightSide, Balance, Market, Zone, Flowgate, slack, leftSide}
 use Rattle.market.specs.Certificate.{Prices, certificateOf}
 use Rattle.market.specs.Cost.{priced, quantityOf, offer, width, part, cost}
-use Rattle.market.specs.Bound.{rowValue, netPrice, lowest, bound}
+use Rattle.market.specs.Bound.{netPrice, lowest, bound}
 use Rattle.market.specs.Charges.{gap, charges}
 use Rattle.market.specs.Prices.{LMP, zonePrices}
 use Rattle.market.specs.Refusals.{firstFailing, clear}
