@@ -36,7 +36,7 @@ at-most xs p h = omega (arith, h .place, ap (λ l. length l) (h .are), length-ap
 
 module _ (b q : List ℕ) where
   counted : unless (countsRight (caseOf b .resources) (caseOf b .zones) (caseOf b .flowgates)) Counts ≡ clear → CountRanges (caseOf b)
-  counted h = count-ranges (caseOf b) (unless-clear (countsRight (caseOf b .resources) (caseOf b .zones) (caseOf b .flowgates)) Counts h) .0
+  counted h = count-ranges (caseOf b) (unless-clear (countsRight (caseOf b .resources) (caseOf b .zones) (caseOf b .flowgates)) Counts h)
 
   bound-place : (p : ℕ) → FirstHolds (grounds b q) (AboveBound p) → p < twentyDigits
   unfolding caseGrounds certificateGrounds
