@@ -2,27 +2,28 @@
 use mathlib.Core.Path.{_≡_, _∙_}
 use mathlib.Core.List.{List}
 use Prim.Native.Nat.{ℕ, _<_, _≤_}
+use native.Mathlib.Nat.{mul-le-mul}
 use native.Mathlib.Omega.{arith}
-use lib.IntN.{ℤ, pos, negsuc, negℤ, natAbs, _+ℤ_, _-ℤ_, _*ℤ_, +ℤ-idl, +ℤ-idr, *ℤ-zero}
+use lib.IntN.{ℤ, pos, negℤ, natAbs, _+ℤ_, _-ℤ_, _*ℤ_, +ℤ-idl, +ℤ-idr, *ℤ-zero}
 use Rattle.arith.specs.Sums.{sumOf, upto}
 use Rattle.arith.proofs.Linear.{sorted, count}
-use Rattle.arith.proofs.Magnitudes.{abs-neg, abs-mul}
+use Rattle.arith.proofs.Magnitudes.{abs-neg, abs-sub, abs-mul}
 use Rattle.arith.proofs.Sums.{sum-ext, sum-zero}
 use Rattle.market.specs.Case.{Case, Curve, curves, operating, regulatingPlusSpinning, regulating, shortTerm}
 use Rattle.market.specs.CaseFile.{caseOf}
 use Rattle.market.specs.Limits.{MAX, MIN, HI, LO}
 use Rattle.market.specs.Rows.{Balance, Market, Zone, Flowgate, Limited, maxWithReserve, maxWithShortTerm, minimum, high, low, limits, rows, rightSide}
 use Rattle.market.specs.Certificate.{Prices, certificateOf}
-use Rattle.market.specs.Records.{kw, millicents, power, reservePricesOf, limitPricesOf, zoneRequirementsOf}
+use Rattle.market.specs.Records.{millicents, power, reservePricesOf, limitPricesOf, zoneRequirementsOf}
 use Rattle.market.proofs.NetPrices.{rows-sum}
 use Rattle.market.proofs.Ranges.{CaseRanges}
 use Rattle.market.proofs.Sizes.{right-size}
 use Rattle.records.proofs.Places.{resources-is, zones-is, flowgates-is}
 use Rattle.limits.specs.Together.{limitsOf}
 use Rattle.prices.specs.Standing.{PricesStand}
-use Rattle.prices.proofs.Known.{case-ranges, flowgate-below, balance-size, flowgate-size}
+use Rattle.prices.proofs.Known.{case-ranges, balance-size, flowgate-size, limit-size}
 use Rattle.units.specs.Room.{ProductRoom}
-use Rattle.bounds.specs.Sizes.{RowRoom, SmallRequirements, SmallLimits}
+use Rattle.bounds.specs.Sizes.{mostFlowgateTerm, RowRoom, SmallRequirements, SmallLimits}
 use Rattle.bounds.specs.Terms.{rowTerm, zoneTerms, flowgateTerm, limitTerms, zoneValue, limitValue}
 
 pub over-curves : (f : Curve → ℤ) → f operating +ℤ (f regulatingPlusSpinning +ℤ (f regulating +ℤ f shortTerm)) ≡ sumOf f curves
@@ -58,11 +59,12 @@ module _ (c : Case) (y : Prices) where
   unfolding zoneValue reservePricesOf zoneRequirementsOf rightSide
   zone-value-is z = over-curves (λ k. y (Zone z k) *ℤ rightSide c (Zone z k))
 
-  pub flowgate-value-is : (f : ℕ) → y (Flowgate f) *ℤ negsuc 999 *ℤ c .flowgateLimit f ≡ y (Flowgate f) *ℤ rightSide c (Flowgate f)
+  -- the right side is 0 less the limit
+  pub flowgate-value-is : (f : ℕ) → y (Flowgate f) *ℤ (pos 0 -ℤ pos 1000 *ℤ c .flowgateLimit f) ≡ y (Flowgate f) *ℤ rightSide c (Flowgate f)
   unfolding rightSide
   flowgate-value-is f = ring (y (Flowgate f)) (c .flowgateLimit f)
     where
-      ring : (p l : ℤ) → p *ℤ negsuc 999 *ℤ l ≡ p *ℤ negℤ (pos 1000 *ℤ l)
+      ring : (p l : ℤ) → p *ℤ (pos 0 -ℤ pos 1000 *ℤ l) ≡ p *ℤ negℤ (pos 1000 *ℤ l)
       ring p l = simp sorted (simp count (omega arith))
 
   pub limit-value-is : (i : ℕ) → limitValue (limitPricesOf y i) (limitsOf (c .resource i)) ≡ sumOf (λ l. y (Limited i l) *ℤ rightSide c (Limited i l)) limits
@@ -88,18 +90,26 @@ module _ (c : Case) (y : Prices) where
 
 -- ---- of the bytes
 module _ {b q : List ℕ} {r z f : ℕ} (s : PricesStand b q r z f) where
-  pub flowgate-room : (g : ℕ) → g < f → ProductRoom (certificateOf q .price (Flowgate g)) (negsuc 999)
-  flowgate-room g n = record { left = omega (arith, flowgate-size s g n); right = omega arith; product = omega (arith, flowgate-size s g n) }
+  pub flowgate-side-size : (g : ℕ) → g < f → natAbs (pos 0 -ℤ pos 1000 *ℤ caseOf b .flowgateLimit g) ≤ 20000000000
+  flowgate-side-size g n =
+      let l = caseOf b .flowgateLimit g in
+      omega (arith, limit-size s g n, abs-mul (pos 1000) l, abs-sub (pos 0) (pos 1000 *ℤ l))
 
-  pub limit-most : (g : ℕ) → g < f → natAbs (caseOf b .flowgateLimit g) ≤ 20000000
-  limit-most g n = case-ranges s .flowgate-limit g (flowgate-below s n) .le
-
-  pub flowgate-row-room : (g : ℕ) → g < f → RowRoom (millicents (certificateOf q .price (Flowgate g) *ℤ negsuc 999)) (kw (caseOf b .flowgateLimit g))
-  flowgate-row-room g n =
+  pub flowgate-room : (g : ℕ) → g < f → ProductRoom (certificateOf q .price (Flowgate g)) (pos 0 -ℤ pos 1000 *ℤ caseOf b .flowgateLimit g)
+  flowgate-room g n =
       record {
-        row-price = omega (arith, flowgate-size s g n, abs-mul (certificateOf q .price (Flowgate g)) (negsuc 999));
-        right-side = omega (arith, limit-most g n);
+        left = omega (arith, flowgate-size s g n);
+        right = omega (arith, flowgate-side-size g n);
+        product = omega (arith, mul-le-mul (flowgate-size s g n) (flowgate-side-size g n));
       }
+
+  pub flowgate-term-size : (g : ℕ) → g < f → natAbs (certificateOf q .price (Flowgate g) *ℤ (pos 0 -ℤ pos 1000 *ℤ caseOf b .flowgateLimit g)) ≤ mostFlowgateTerm
+  flowgate-term-size g n =
+      omega (
+        arith,
+        abs-mul (certificateOf q .price (Flowgate g)) (pos 0 -ℤ pos 1000 *ℤ caseOf b .flowgateLimit g),
+        mul-le-mul (flowgate-size s g n) (flowgate-side-size g n),
+      )
 
   pub balance-room : RowRoom (millicents (certificateOf q .price Balance)) (power (caseOf b .demand))
   balance-room = record { row-price = balance-size s; right-side = case-ranges s .demand-to }

@@ -34,6 +34,7 @@ use market::OfferSteps;
 use market::ReservePrices;
 use market::Resource;
 use market::Step;
+use market::Watts;
 use market::ZoneRequirements;
 use nets::Nets;
 
@@ -110,15 +111,16 @@ fn zones_sum(b: &[u8], q: &[u8], r: usize, z: usize, f: usize) -> Grains
 
 // ---- of flowgates
 
-// 'At least': -1000 × the limit stands on the right.
+// 'At least': the limit stands on the right with its sign turned.
 fn flowgate_term(b: &[u8], q: &[u8], r: usize, z: usize, f: usize, flowgate: usize) -> Grains
     requires { ⌜ PricesStand (now b) (now q) r z f × (flowgate < f) ⌝ }
     ensures { λ g. ⌜ Figure g (flowgateTerm (now (b .entry)) (now (q .entry)) flowgate) mostFlowgateTerm ⌝ }
 {
     let price = entries::flowgate_price_at(q, r, z, f, flowgate);
-    let against = units::factored(price, -1000);
     let limit = readers::flowgate_limit_at(b, r, z, f, flowgate);
-    worth(against, limit)
+    let most = units::in_watts(limit);
+    let side = units::watts_difference(Watts(0), most);
+    units::flow_value(price, side)
 }
 
 fn flowgates_sum(b: &[u8], q: &[u8], r: usize, z: usize, f: usize) -> Grains

@@ -5,6 +5,8 @@ use lib.IntN.{ℤ, pos}
 use Rattle.market.specs.declared.Kw.{Kw}
 use Rattle.market.specs.declared.Cents.{Cents}
 use Rattle.market.specs.declared.Millicents.{Millicents}
+use Rattle.market.specs.declared.Watts.{Watts}
+use Rattle.market.specs.declared.ShiftFactor.{ShiftFactor}
 use Rattle.market.specs.declared.Grains.{Grains}
 use Rattle.market.specs.declared.Counts.{Counts}
 use Rattle.market.specs.declared.Step.{Step}
@@ -35,6 +37,12 @@ cents v = record { 0 = v }
 
 abbrev pub millicents : ℤ → Millicents
 millicents v = record { 0 = v }
+
+abbrev pub watts : ℤ → Watts
+watts v = record { 0 = v }
+
+abbrev pub shiftFactor : ℤ → ShiftFactor
+shiftFactor v = record { 0 = v }
 
 abbrev pub grains : ℤ → Grains
 grains v = record { 0 = v }

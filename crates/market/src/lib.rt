@@ -13,6 +13,12 @@ pub struct Cents(pub i64);
 // All other prices, in thousandths of a cent per MWh.
 pub struct Millicents(pub i64);
 
+// The flow over a flowgate, and its limit beside it: in thousandths of a kW.
+pub struct Watts(pub i64);
+
+// How much of a resource's energy flows over a flowgate, in thousandths.
+pub struct ShiftFactor(pub i64);
+
 // Cost, bound and charges. 'Grain' is document 01's own term: one thousandth of a cent per MWh times one kW.
 pub struct Grains(pub i64);
 

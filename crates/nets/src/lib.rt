@@ -50,7 +50,7 @@ fn asked(offer: Cents) -> Millicents
     requires { ⌜ SmallOffer offer ⌝ }
     ensures { λ m. ⌜ Price m (pos 1000 *ℤ offer .0) mostPrice ⌝ }
 {
-    units::factored(offer, 1000)
+    units::in_millicents(offer)
 }
 
 // ---- a step

@@ -4,7 +4,7 @@ use mathlib.Core.List.{List}
 use Prim.Native.Nat.{ℕ, _<_, _≤_, _*_}
 use native.Mathlib.Nat.{mul-le-mul}
 use native.Mathlib.Omega.{arith}
-use lib.IntN.{ℤ, natAbs, _*ℤ_, _-ℤ_}
+use lib.IntN.{ℤ, pos, natAbs, _*ℤ_, _-ℤ_}
 use Rattle.arith.specs.Sums.{sumOf, upto}
 use Rattle.arith.proofs.Magnitudes.{abs-mul}
 use Rattle.arith.proofs.Sums.{upto-size}
@@ -44,6 +44,13 @@ module _ {b q : List ℕ} {r z f : ℕ} (s : PricesStand b q r z f) where
 
   pub factor-size : (g i : ℕ) → g < f → i < r → natAbs (caseOf b .shiftFactor g i) ≤ 1000
   factor-size g i h k = case-ranges .shift-factor g i (flowgate-below h) (resource-below k) .le
+
+  pub limit-size : (g : ℕ) → g < f → natAbs (caseOf b .flowgateLimit g) ≤ 20000000
+  limit-size g h = case-ranges .flowgate-limit g (flowgate-below h) .le
+
+  -- in thousandths of a kW
+  pub limit-room : (g : ℕ) → g < f → ProductRoom (pos 1000) (caseOf b .flowgateLimit g)
+  limit-room g h = record { left = omega arith; right = omega (arith, limit-size g h); product = omega (arith, limit-size g h) }
 
   pub congestion-size : (g i : ℕ) → g < f → i < r → natAbs (certificateOf q .price (Flowgate g) *ℤ caseOf b .shiftFactor g i) ≤ 400000000
   congestion-size g i h k = omega (arith, abs-mul (certificateOf q .price (Flowgate g)) (caseOf b .shiftFactor g i), mul-le-mul (flowgate-size g h) (factor-size g i h k))

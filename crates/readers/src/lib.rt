@@ -3,12 +3,13 @@
 // parameters, which makes the reader and calls it. Each asks that the bytes it reads are there (`records`, specs/Places.antt).
 ghost use mathlib.Core.Path.{_≡_};
 ghost use Rattle.market.specs.CaseFile.{resourceAt, resourcePlace, caseOf};
-ghost use Rattle.market.specs.Records.{kw, recordOf, offerStepsOf, zoneRequirementsOf};
+ghost use Rattle.market.specs.Records.{kw, shiftFactor, recordOf, offerStepsOf, zoneRequirementsOf};
 ghost use Rattle.records.specs.Places.{ZoneIn, ResourceIn, FlowgateIn, FactorIn};
 ghost use Rattle.readers.specs.Reader.{readerOf};
 use market::Kw;
 use market::OfferSteps;
 use market::Resource;
+use market::ShiftFactor;
 use market::ZoneRequirements;
 
 pub struct CaseReader<'a> {
@@ -119,10 +120,9 @@ pub fn flowgate_limit_at(b: &[u8], resources: usize, zones: usize, flowgates: us
     flowgate_limit_of(new(b, resources, zones, flowgates), f)
 }
 
-// In thousandths.
-pub fn shift_factor_of<'a>(r: CaseReader<'a>, f: usize, i: usize) -> i64
+pub fn shift_factor_of<'a>(r: CaseReader<'a>, f: usize, i: usize) -> ShiftFactor
     requires { ⌜ FactorIn (now (r .bytes)) (r .resources) (r .zones) f i ⌝ }
-    ensures { λ n. ⌜ n ≡ caseOf (now (r .entry .bytes)) .shiftFactor f i ⌝ }
+    ensures { λ q. ⌜ q ≡ shiftFactor (caseOf (now (r .entry .bytes)) .shiftFactor f i) ⌝ }
 {
     records::shift_factor_at(r.bytes, r.resources, r.zones, f, i)
 }
@@ -134,9 +134,9 @@ pub fn shift_factor_at(
     flowgates: usize,
     f: usize,
     i: usize,
-) -> i64
+) -> ShiftFactor
     requires { ⌜ FactorIn (now b) resources zones f i ⌝ }
-    ensures { λ r. ⌜ r ≡ caseOf (now (b .entry)) .shiftFactor f i ⌝ }
+    ensures { λ r. ⌜ r ≡ shiftFactor (caseOf (now (b .entry)) .shiftFactor f i) ⌝ }
 {
     shift_factor_of(new(b, resources, zones, flowgates), f, i)
 }

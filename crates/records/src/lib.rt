@@ -6,7 +6,7 @@ ghost use Rattle.wire.specs.Within.{Within};
 ghost use Rattle.market.specs.Bytes.{u32At, i32At};
 ghost use Rattle.market.specs.Case.{Curve, curveNumber, contingencyReserve, regulatingReserve, shortTermReserve};
 ghost use Rattle.market.specs.CaseFile.{resourceAt, resourcePlace, caseOf};
-ghost use Rattle.market.specs.Records.{kw, cents, power, price, offerStepOf, offerStepsOf, stateOf, outputLimitsOf, rampsOf, startsOf, reserveOffersOf, recordOf, reserveTermsOf, curveStepsOf, zoneRequirementsOf};
+ghost use Rattle.market.specs.Records.{kw, cents, shiftFactor, power, price, offerStepOf, offerStepsOf, stateOf, outputLimitsOf, rampsOf, startsOf, reserveOffersOf, recordOf, reserveTermsOf, curveStepsOf, zoneRequirementsOf};
 ghost use Rattle.records.specs.Places.{HeadIn, CurveIn, ZoneIn, ResourceIn, FlowgateIn, FactorIn, termsAt, curveStepAt};
 use market::Cents;
 use market::CurveSteps;
@@ -18,6 +18,7 @@ use market::Ramps;
 use market::ReserveOffers;
 use market::ReserveTerms;
 use market::Resource;
+use market::ShiftFactor;
 use market::Starts;
 use market::State;
 use market::Status;
@@ -291,13 +292,12 @@ pub fn flowgate_limit_at(b: &[u8], resources: usize, zones: usize, f: usize) -> 
     )
 }
 
-// In thousandths.
-pub fn shift_factor_at(b: &[u8], resources: usize, zones: usize, f: usize, i: usize) -> i64
+pub fn shift_factor_at(b: &[u8], resources: usize, zones: usize, f: usize, i: usize) -> ShiftFactor
     requires { ⌜ FactorIn (now b) resources zones f i ⌝ }
-    ensures { λ r. ⌜ r ≡ caseOf (now (b .entry)) .shiftFactor f i ⌝ }
+    ensures { λ r. ⌜ r ≡ shiftFactor (caseOf (now (b .entry)) .shiftFactor f i) ⌝ }
 {
-    wire::i16_at(
+    ShiftFactor(wire::i16_at(
         b,
         170 + zones * 16 + resources * 154 + f * (4 + resources * 2) + 4 + i * 2,
-    )
+    ))
 }

@@ -54,10 +54,6 @@ right-most a b = omega (arith, ap natAbs (back a b), abs-sub a (a -ℤ b))
     back : (a b : ℤ) → b ≡ a -ℤ (a -ℤ b)
     back a b = simp sorted (simp count (omega arith))
 
--- a factor of one
-pub by-one : (v : ℤ) → v *ℤ pos 1 ≡ v
-by-one v = simp sorted (simp count (omega arith))
-
 module _ (c : Case) (x : Schedule) (y : Prices) where
   words : RowsInWords c x
   words = rows-in-words c x

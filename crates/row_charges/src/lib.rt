@@ -11,25 +11,26 @@ ghost use Rattle.market.specs.CaseFile.{caseOf};
 ghost use Rattle.market.specs.Rows.{Balance, Zone, Flowgate, Limited, limits, marketRows, zoneRows, flowgateRows, limitRows, rows};
 ghost use Rattle.market.specs.Certificate.{certificateOf};
 ghost use Rattle.market.specs.Charges.{rowCharge};
+ghost use Rattle.market.specs.Records.{grains};
 ghost use Rattle.prices.specs.Standing.{Standing};
 ghost use Rattle.reserves.specs.Given.{marketTotal, zoneTotal, zoneTotals};
 ghost use Rattle.row_charges.specs.Families.{ChargeRoom, FourRoom, FiveRoom, chargeOf, fourCharges, fiveCharges};
 use limits::ResourceLimits;
 use market::Amounts;
 use market::CurveAmounts;
+use market::Grains;
 use market::Kw;
 use market::LimitPrices;
 use market::Millicents;
 use market::ReservePrices;
 
 // The price of a row times its slack, which is one side less the other.
-fn charge(price: Millicents, more: Kw, less: Kw) -> i64
+fn charge(price: Millicents, more: Kw, less: Kw) -> Grains
     requires { ⌜ ChargeRoom (price .0) (more .0) (less .0) ⌝ }
-    ensures { λ v. ⌜ v ≡ price .0 *ℤ (more .0 -ℤ less .0) ⌝ }
+    ensures { λ v. ⌜ v ≡ grains (price .0 *ℤ (more .0 -ℤ less .0)) ⌝ }
 {
     let slack = units::kw_difference(more, less);
-    let value = units::value(price, slack);
-    value.0
+    units::value(price, slack)
 }
 
 // ---- row 1 and the market's reserve rows
@@ -43,7 +44,8 @@ fn write_balance(b: &[u8], q: &[u8], r: usize, z: usize, f: usize, out: &mut [i6
     let total = rows::energy_total(q, r, z, f);
     let demand = records::demand(b);
     let value = charge(price, total, demand);
-    out[0] = value;
+    let number = value.0;
+    out[0] = number;
 }
 
 // Of four reserve rows: what they have less what they need.
@@ -59,10 +61,14 @@ fn write_four(prices: ReservePrices, have: CurveAmounts, need: CurveAmounts, out
     );
     let regulating = charge(prices.regulating, have.regulating, need.regulating);
     let short_term = charge(prices.short_term, have.short_term, need.short_term);
-    out[0] = operating;
-    out[1] = both;
-    out[2] = regulating;
-    out[3] = short_term;
+    let first = operating.0;
+    let second = both.0;
+    let third = regulating.0;
+    let fourth = short_term.0;
+    out[0] = first;
+    out[1] = second;
+    out[2] = third;
+    out[3] = fourth;
 }
 
 // Against the cleared quantities.
@@ -149,17 +155,17 @@ fn write_zones(
 
 // ---- flowgates' rows
 
-// 1000 × the limit less the flow, in thousandths of a kW: a price in cents is as many thousandths of a cent for each.
-fn flowgate_charge(b: &[u8], q: &[u8], r: usize, z: usize, f: usize, g: usize) -> i64
+// The limit less the flow.
+fn flowgate_charge(b: &[u8], q: &[u8], r: usize, z: usize, f: usize, g: usize) -> Grains
     requires { ⌜ Standing (now b) (now q) r z f × (g < f) ⌝ }
-    ensures { λ v. ⌜ v ≡ chargeOf (now (b .entry)) (now (q .entry)) (Flowgate g) ⌝ }
+    ensures { λ v. ⌜ v ≡ grains (chargeOf (now (b .entry)) (now (q .entry)) (Flowgate g)) ⌝ }
 {
-    let cents = entries::flowgate_price_at(q, r, z, f, g);
-    let price = units::factored(cents, 1);
+    let price = entries::flowgate_price_at(q, r, z, f, g);
     let flows = rows::flow(b, q, r, z, f, g);
     let limit = readers::flowgate_limit_at(b, r, z, f, g);
-    let most = units::flow(1000, limit);
-    charge(price, most, flows)
+    let most = units::in_watts(limit);
+    let slack = units::watts_difference(most, flows);
+    units::flow_value(price, slack)
 }
 
 fn write_flowgates(b: &[u8], q: &[u8], r: usize, z: usize, f: usize, out: &mut [i64])
@@ -169,7 +175,8 @@ fn write_flowgates(b: &[u8], q: &[u8], r: usize, z: usize, f: usize, out: &mut [
     let mut g: usize = 0;
     while g < f {
         let value = flowgate_charge(b, q, r, z, f, g);
-        out[g] = value;
+        let number = value.0;
+        out[g] = number;
         g += 1;
     }
 }
@@ -190,11 +197,16 @@ fn write_five(prices: LimitPrices, a: Amounts, l: ResourceLimits, out: &mut [i64
     let minimum = charge(prices.minimum, down, l.min);
     let high = charge(prices.high, l.high, a.energy);
     let low = charge(prices.low, a.energy, l.low);
-    out[0] = reserve;
-    out[1] = short_term;
-    out[2] = minimum;
-    out[3] = high;
-    out[4] = low;
+    let first = reserve.0;
+    let second = short_term.0;
+    let third = minimum.0;
+    let fourth = high.0;
+    let fifth = low.0;
+    out[0] = first;
+    out[1] = second;
+    out[2] = third;
+    out[3] = fourth;
+    out[4] = fifth;
 }
 
 fn write_resource(b: &[u8], q: &[u8], r: usize, z: usize, f: usize, i: usize, out: &mut [i64])

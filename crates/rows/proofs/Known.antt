@@ -5,7 +5,7 @@ use mathlib.Core.List.{List, [], _∷_, _++_, map}
 use Prim.Native.Nat.{ℕ, _+_, _*_, _<_, _≤_}
 use native.Mathlib.Nat.{mul-le-mul}
 use native.Mathlib.Omega.{arith}
-use lib.IntN.{pos, natAbs, _*ℤ_}
+use lib.IntN.{natAbs, _*ℤ_}
 use lib.ListN.{length}
 use Rattle.arith.specs.Sums.{sumOf, upto, across}
 use Rattle.arith.proofs.Lists.{length-across, length-upto, across-one}
@@ -25,7 +25,7 @@ use Rattle.records.specs.Ranged.{Ranged}
 use Rattle.records.proofs.Places.{resource-is}
 use Rattle.records.proofs.Ranged.{valid-resource}
 use Rattle.prices.specs.Standing.{Standing}
-use Rattle.prices.proofs.Known.{case-ranges, factor-size, flowgate-below, resource-below}
+use Rattle.prices.proofs.Known.{factor-size, resource-below}
 use Rattle.reserves.proofs.Known.{amount-small}
 use Rattle.units.specs.Room.{SumRoom, ProductRoom}
 use Rattle.rows.specs.Tests.{EnergyBounded}
@@ -61,11 +61,6 @@ module _ {b q : List ℕ} {r z f : ℕ} (s : Standing b q r z f) where
         upto-size (λ j. caseOf b .shiftFactor g j *ℤ kwOf (certificateOf q .amount) j energy) 2000000000 i (λ j l. part-small g j h (omega arith)),
         s .prices .case-bytes .most-resources,
       )
-
-  pub limit-room : (g : ℕ) → g < f → ProductRoom (pos 1000) (caseOf b .flowgateLimit g)
-  limit-room g h =
-      let small = case-ranges (s .prices) .flowgate-limit g (flowgate-below (s .prices) h) .le in
-      record { left = omega arith; right = omega (arith, small); product = omega (arith, small) }
 
   -- ---- a resource's record
   pub resource-ranged : (i : ℕ) → i < r → Ranged (recordOf (resourceAt b (resourcePlace z i)))

@@ -12,7 +12,7 @@ ghost use Rattle.market.specs.UpperBounds.{energy};
 ghost use Rattle.market.specs.Rows.{Balance, Zone, Flowgate, Limited, limits, marketRows, zoneRows, flowgateRows, limitRows, rows};
 ghost use Rattle.market.specs.Certificate.{certificateOf};
 ghost use Rattle.market.specs.InWords.{kwOf};
-ghost use Rattle.market.specs.Records.{kw, curveAmountsOf};
+ghost use Rattle.market.specs.Records.{kw, watts, curveAmountsOf};
 ghost use Rattle.market.specs.Refusals.{foundAt, firstFailing};
 ghost use Rattle.market.specs.Outcome.{rowMet};
 ghost use Rattle.records.specs.Places.{ZoneIn};
@@ -24,6 +24,7 @@ use limits::ResourceLimits;
 use market::Amounts;
 use market::CurveAmounts;
 use market::Kw;
+use market::Watts;
 
 // ---- row 1
 
@@ -138,18 +139,18 @@ fn zones_short(b: &[u8], q: &[u8], r: usize, z: usize, f: usize, have: [CurveAmo
 
 // ---- flowgates' rows
 
-// What the resources make flow, in thousandths of a kW.
-pub fn flow(b: &[u8], q: &[u8], r: usize, z: usize, f: usize, g: usize) -> Kw
+// What the resources make flow.
+pub fn flow(b: &[u8], q: &[u8], r: usize, z: usize, f: usize, g: usize) -> Watts
     requires { ⌜ Standing (now b) (now q) r z f × (g < f) ⌝ }
-    ensures { λ v. ⌜ v ≡ kw (sumOf (λ i. caseOf (now (b .entry)) .shiftFactor g i *ℤ kwOf (certificateOf (now (q .entry)) .amount) i energy) (upto r)) ⌝ }
+    ensures { λ v. ⌜ v ≡ watts (sumOf (λ i. caseOf (now (b .entry)) .shiftFactor g i *ℤ kwOf (certificateOf (now (q .entry)) .amount) i energy) (upto r)) ⌝ }
 {
-    let mut sum = Kw(0);
+    let mut sum = Watts(0);
     let mut i: usize = 0;
     while i < r {
         let factor = readers::shift_factor_at(b, r, z, f, g, i);
         let a = entries::amounts_at(q, r, z, f, i);
         let part = units::flow(factor, a.energy);
-        sum = units::kw_sum(sum, part);
+        sum = units::watts_sum(sum, part);
         i += 1;
     }
     sum
@@ -162,8 +163,8 @@ fn flowgate_over(b: &[u8], q: &[u8], r: usize, z: usize, f: usize, g: usize, row
 {
     let flows = flow(b, q, r, z, f, g);
     let limit = readers::flowgate_limit_at(b, r, z, f, g);
-    let most = units::flow(1000, limit);
-    if units::at_least(most, flows) {
+    let most = units::in_watts(limit);
+    if units::watts_at_least(most, flows) {
         return 0;
     }
     row

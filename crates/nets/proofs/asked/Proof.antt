@@ -1,14 +1,13 @@
-use mathlib.Core.Path.{_∙_}
 use Rattle.nets.proofs.Figures.{price-is}
 use Rattle.arith.proofs.Magnitudes.{abs-mul}
-use lib.IntN.{pos, *ℤ-comm}
+use lib.IntN.{pos}
 use native.Mathlib.Omega.{arith}
 use borrow.Author.Needs.{needs}
 use Rattle.nets.proofs.asked.Statement.{statement}
 use Rattle.nets.proofs.asked.Tie as tie
 
 returns : tie.Need-returns
-returns c = let v = c .before .args .offer .0 in price-is (c .factored .ensures ∙ rw (*ℤ-comm v (pos 1000))) (omega (arith, abs-mul (pos 1000) v))
+returns c = let v = c .before .args .offer .0 in price-is (c .in-millicents .ensures) (omega (arith, abs-mul (pos 1000) v))
 
 pub asked-spec : {M : Type 1} → statement M
 asked-spec = tie.close (tie.spec (λ c κs. search needs) returns)

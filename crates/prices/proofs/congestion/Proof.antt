@@ -1,19 +1,16 @@
-use mathlib.Core.Path.{_≡_, sym, ap, _∙_}
-use Prim.Native.Nat.{ℕ, _+_, _-_, _*_, _≤_, _<_}
+use mathlib.Core.Path.{_≡_, _∙_}
+use Prim.Native.Nat.{_-_, _≤_}
 use native.Mathlib.Omega.{arith}
-use lib.IntN.{natAbs, _*ℤ_}
+use lib.IntN.{_*ℤ_}
 use Rattle.arith.specs.Sums.{sumOf, upto}
 use Rattle.arith.proofs.Sums.{sum-upto}
-use Rattle.arith.proofs.Magnitudes.{abs-add, abs-mul}
 use Rattle.market.specs.CaseFile.{caseOf}
 use Rattle.market.specs.Rows.{Flowgate}
 use Rattle.market.specs.Certificate.{certificateOf}
 use Rattle.market.specs.Records.{millicents}
 use Rattle.records.proofs.Places.{factor-in}
 use Rattle.prices.proofs.Known.{congestion-size, congestion-room, congestion-so-far}
-use borrow.Author.Needs.{needs, sfits-of}
-use mir.Facts.{toZ-ofZ}
-use mir.Syntax.{w64}
+use borrow.Author.Needs.{needs}
 use Rattle.prices.proofs.congestion.Statement.{statement}
 use Rattle.prices.proofs.congestion.Tie as tie
 
@@ -36,13 +33,13 @@ shift-factor-at-requires c κs = let s = c .before .before .before .before .befo
 factored-requires : tie.Need-factored-requires Inv-loop μ-loop
 factored-requires c κs =
     let s = c .before .before .before .before .before .before in
-    rw (c .before .flowgate-price-at .ensures, toZ-ofZ (sfits-of {w = w64} (c .shift-factor-at .ok)), c .shift-factor-at .ensures) (congestion-room (s .pre .0) (c .before .before .before .loop .g) (s .args .i) (omega arith) (s .pre .1))
+    rw (c .before .flowgate-price-at .ensures, c .shift-factor-at .ensures) (congestion-room (s .pre .0) (c .before .before .before .loop .g) (s .args .i) (omega arith) (s .pre .1))
 
 -- the flowgate's term
 term : (c : tie.After-factored Inv-loop μ-loop) →
     let s = c .before .before .before .before .before .before .before in
     c .factored .result ≡ millicents (certificateOf (s .args .q .now) .price (Flowgate (c .before .before .before .before .loop .g)) *ℤ caseOf (s .args .b .now) .shiftFactor (c .before .before .before .before .loop .g) (s .args .i))
-term c = c .factored .ensures ∙ rw (c .before .before .flowgate-price-at .ensures, toZ-ofZ (sfits-of {w = w64} (c .before .shift-factor-at .ok)), c .before .shift-factor-at .ensures)
+term c = c .factored .ensures ∙ rw (c .before .before .flowgate-price-at .ensures, c .before .shift-factor-at .ensures)
 
 price-sum-requires : tie.Need-price-sum-requires Inv-loop μ-loop
 price-sum-requires c κs =

@@ -2,11 +2,15 @@
 -- In a local of a body MIR erases the lifetime of the struct's type, so the value is shown to have the type at `erased`.
 -- Assumes nothing.
 use contract.Running.{tablesOf}
-use Rattle.readers.proofs.Walk.{_≡_, refl, sym, ap, subst, _∙_, ℕ, _<_, _^_, List, [], _∷_, length, URA, named, erased, w64, Val, vint, SProp, ent, sep, snd∗, exE, id⊢, Lft, Share, Fml, ftrue, flft, Memory, Routine, Heap, Calls, Loops, WpFn, Tables, Atoms, sem, Lfts, Fun, fact, givenOf, tables, Given, ‵, raw, _⊛_, ⋆, some, later, _$_, _∵_, !, qed, by, move, drop, use1, use2, split, join, pick, fsplit, fjoin, suffices, frame, await, done, look, init, forget, stop, from, load, and-then, no-more, land, returns, enter, alloc1, alloc0, params1, pass1, pass0, free1, free0, FmC, fmOf, WpFn-mono, RattleType, owns, Is, shows, uint-makes, uint-vals, uint-tells, i64, u8, usize, RefT, NamedLft, now, plain, namedLft, sliceVal, ShrSlice, slice-vals, shr-slice-tells, shr-slice-lawful, shr-slice-copy, owned, peeks, heard, nothing, Contract, Triple, calls-at, Vals, onEntry, Meets, tripleOf, entered, cited, says, needs, Stays, stay-none, stay-none-slice, walkOf, goes-none, goes-none-slice, Walks, ends-at, walked, walk-meets, yes, ensured, lasts, ℤ, sint-lawful}
+use Rattle.readers.proofs.Walk.{_≡_, refl, sym, ap, subst, _∙_, ℕ, _<_, _^_, List, [], _∷_, length, URA, named, erased, w64, Val, vint, SProp, ent, sep, snd∗, exE, id⊢, Lft, Share, Fml, ftrue, flft, Memory, Routine, Heap, Calls, Loops, WpFn, Tables, Atoms, sem, Lfts, Fun, fact, givenOf, tables, Given, ‵, raw, _⊛_, ⋆, some, later, _$_, _∵_, !, qed, by, move, drop, use1, use2, split, join, pick, fsplit, fjoin, suffices, frame, await, done, look, init, forget, stop, from, load, and-then, no-more, land, returns, enter, alloc1, alloc0, params1, pass1, pass0, free1, free0, FmC, fmOf, WpFn-mono, RattleType, owns, Is, shows, uint-makes, uint-vals, uint-tells, u8, usize, RefT, NamedLft, now, plain, namedLft, sliceVal, ShrSlice, slice-vals, shr-slice-tells, shr-slice-lawful, shr-slice-copy, owned, peeks, heard, nothing, Contract, Triple, calls-at, Vals, onEntry, Meets, tripleOf, entered, cited, says, needs, Stays, stay-none, stay-none-slice, walkOf, goes-none, goes-none-slice, Walks, ends-at, walked, walk-meets, yes, ensured, lasts}
 use denote.Struct.Laws as LL
 use Rattle.records.specs.Places.{FactorIn}
 use Rattle.market.specs.CaseFile.{caseOf}
+use Rattle.market.specs.Records.{shiftFactor}
 use Rattle.readers.specs.declared.CaseReader.{CaseReader}
+use Rattle.market.specs.declared.ShiftFactor.{ShiftFactor}
+use Rattle.market.proofs.ShiftFactor as S
+use Rattle.market.proofs.ShiftFactor.Laws as S′
 use Rattle.readers.proofs.CaseReader as T
 use Rattle.readers.proofs.CaseReader.Laws as T′
 use Rattle.readers.proofs.new as new
@@ -45,8 +49,8 @@ module _ {M : Type 1} (𝓤 : URA M) (H : Heap 𝓤) (A : Atoms 𝓤) (W : Given
   abbrev made : CaseReader
   made = record { bytes = s; resources = resources; zones = zones; flowgates = flowgates }
 
-  abbrev Found : CaseReader → ℤ
-  Found x = caseOf (now (x .bytes)) .shiftFactor f i
+  abbrev Found : CaseReader → ShiftFactor
+  Found x = shiftFactor (caseOf (now (x .bytes)) .shiftFactor f i)
 
   abbrev Within : CaseReader → Type 0
   Within x = FactorIn (now (x .bytes)) (x .resources) (x .zones) f i
@@ -85,12 +89,12 @@ module _ {M : Type 1} (𝓤 : URA M) (H : Heap 𝓤) (A : Atoms 𝓤) (W : Given
   goes-thin : (r : CaseReader) (u : Val) → f < 2 ^ 64 → i < 2 ^ 64 → Within r → ent 𝓤 (⋆ 𝓤 H A (‵ (B (κ, tt) .own r (u ∷ [])) ∷ (‵ (flft κ q) ⊛ ‵ ftrue) ∷ [])) (Thin 𝓤 H A mem run .pre (to-thin r u))
   goes-thin r u g-f g-i within = qed W (‵ (B (κ, tt) .own r (u ∷ [])) ∷ (‵ (flft κ q) ⊛ ‵ ftrue) ∷ []) ∵ nothing ! $ owned ! usize (Is usize) (uint-makes 𝓤 H A W w64) i _ (refl, g-i) $ fjoin ! $ owned ! usize (Is usize) (uint-makes 𝓤 H A W w64) f _ (refl, g-f) $ fjoin ! $ move ! (1 ∷ 0 ∷ []) $ fjoin ! $ move ! (1 ∷ 0 ∷ []) $ says ! within $ frame ! $ done !
 
-  thin-said : (r : CaseReader) (t : ℤ) → ent 𝓤 (ensured 𝓤 H A thin.ended (thin.clauses 𝓤 H A mem run) (κ, tt) (r, (f, (i, tt))) tt t) (fact 𝓤 (t ≡ Found r))
+  thin-said : (r : CaseReader) (t : ShiftFactor) → ent 𝓤 (ensured 𝓤 H A thin.ended (thin.clauses 𝓤 H A mem run) (κ, tt) (r, (f, (i, tt))) tt t) (fact 𝓤 (t ≡ Found r))
   thin-said r t = exE 𝓤 _ (λ ws. snd∗ 𝓤 (sem 𝓤 H A (lasts thin.ended (κ, tt) (r, (f, (i, tt))) ws)) (fact 𝓤 (t ≡ Found r)))
 
-  exits : (t : ℤ) (u : Val) → resources < 2 ^ 64 → zones < 2 ^ 64 → flowgates < 2 ^ 64 → f < 2 ^ 64 → i < 2 ^ 64 → t ≡ Found made → ent 𝓤 (⋆ 𝓤 H A (‵ (i64 .own t (u ∷ [])) ∷ (‵ (flft κ q) ⊛ ‵ ftrue) ∷ ‵ Own ∷ [])) (Post u)
+  exits : (t : ShiftFactor) (u : Val) → resources < 2 ^ 64 → zones < 2 ^ 64 → flowgates < 2 ^ 64 → f < 2 ^ 64 → i < 2 ^ 64 → t ≡ Found made → ent 𝓤 (⋆ 𝓤 H A (‵ (S.the-row .own t (u ∷ [])) ∷ (‵ (flft κ q) ⊛ ‵ ftrue) ∷ ‵ Own ∷ [])) (Post u)
   exits t u g-resources g-zones g-flowgates g-f g-i e =
-      qed W (‵ (i64 .own t (u ∷ [])) ∷ (‵ (flft κ q) ⊛ ‵ ftrue) ∷ ‵ Own ∷ []) ∵
+      qed W (‵ (S.the-row .own t (u ∷ [])) ∷ (‵ (flft κ q) ⊛ ‵ ftrue) ∷ ‵ Own ∷ []) ∵
       suffices ! _ (ends-at 𝓤 H A this.ended stayed (this.clauses 𝓤 H A mem run) W (((κ, tt), (q, tt), tt, (s, (resources, (zones, (flowgates, (f, (i, tt)))))), vals), tt) u t (tt, (tt, (tt, (tt, (tt, (tt, tt)))))) (tt, (tt, (tt, (tt, (tt, (tt, tt))))))) $ says ! e $
       move ! (1 ∷ []) $ frame ! $ nothing ! $ owned ! usize (Is usize) (uint-makes 𝓤 H A W w64) i _ (refl, g-i) $ fjoin ! $ owned ! usize (Is usize) (uint-makes 𝓤 H A W w64) f _ (refl, g-f) $ fjoin ! $ owned ! usize (Is usize) (uint-makes 𝓤 H A W w64) flowgates _ (refl, g-flowgates) $ fjoin ! $ owned ! usize (Is usize) (uint-makes 𝓤 H A W w64) zones _ (refl, g-zones) $ fjoin ! $ owned ! usize (Is usize) (uint-makes 𝓤 H A W w64) resources _ (refl, g-resources) $ fjoin ! $ move ! (2 ∷ 0 ∷ []) $ fjoin ! $ frame ! $ done !
 
@@ -108,11 +112,11 @@ module _ {M : Type 1} (𝓤 : URA M) (H : Heap 𝓤) (A : Atoms 𝓤) (W : Given
         land ! (from ! (stop !)) (init ! 3 refl (LL.lawful (T.the-type αᵉ) (T′.the-laws αᵉ) 𝓤 H A W .typed r _ is .0)) $
         use2 W (raw (Thin 𝓤 H A mem run .pre (to-thin r u))) (goes-thin r u g-f g-i (subst Within (sym e) within)) $
         calls-at ! fm (Thin 𝓤 H A mem run) known-thin (to-thin r u) (and-then ! (load ! (from ! (stop !)) (look ! 2 refl)) (and-then ! (load ! (from ! (stop !)) (look ! 6 refl)) (and-then ! (load ! (from ! (stop !)) (look ! 4 refl)) (no-more !)))) (λ u′.
-        use1 W (later (some (λ (t : ℤ). ((‵ (flft κ q) ⊛ ‵ ftrue) ⊛ ‵ (i64 .own t (u′ ∷ []))) ⊛ raw (ensured 𝓤 H A thin.ended (thin.clauses 𝓤 H A mem run) (κ, tt) (r, (f, (i, tt))) tt t)))) (id⊢ 𝓤 _) $ await ! tt $ pick ! (λ t.
+        use1 W (later (some (λ (t : ShiftFactor). ((‵ (flft κ q) ⊛ ‵ ftrue) ⊛ ‵ (S.the-row .own t (u′ ∷ []))) ⊛ raw (ensured 𝓤 H A thin.ended (thin.clauses 𝓤 H A mem run) (κ, tt) (r, (f, (i, tt))) tt t)))) (id⊢ 𝓤 _) $ await ! tt $ pick ! (λ t.
         split ! $ move ! (1 ∷ []) $ use1 W (raw (fact 𝓤 (t ≡ Found r))) (thin-said r t) $ heard ! (t ≡ Found r) (λ e′. split ! $ move ! (1 ∷ []) $
         -- [the result; the token; what s owns; the locals, from the last to room for _0]
-        peeks ! i64 (Is i64) (shows 𝓤 H A i64) t (u′ ∷ []) (λ is′.
-        land ! (from ! (stop !)) (init ! 17 refl (sint-lawful 𝓤 H A W w64 .typed t _ is′ .0)) $
+        peeks ! S.the-row (Is S.the-row) (shows 𝓤 H A S.the-row) t (u′ ∷ []) (λ is′.
+        land ! (from ! (stop !)) (init ! 17 refl (LL.lawful S.the-type S′.the-laws 𝓤 H A W .typed t _ is′ .0)) $
         returns ! (look ! 17 refl) $ forget ! 3 refl $ forget ! 5 refl $ forget ! 7 refl $ forget ! 9 refl $ forget ! 11 refl $ forget ! 13 refl $ forget ! 15 refl $ forget ! 17 refl $
         move ! (17 ∷ 18 ∷ []) $ free1 ! $ move ! (15 ∷ 16 ∷ []) $ free1 ! $ move ! (13 ∷ 14 ∷ []) $ free1 ! $ move ! (11 ∷ 12 ∷ []) $ free1 ! $ move ! (9 ∷ 10 ∷ []) $ free1 ! $ move ! (7 ∷ 8 ∷ []) $ free1 ! $ move ! (5 ∷ 6 ∷ []) $ free1 ! $ move ! (3 ∷ 4 ∷ []) $ free1 ! $ free0 ! $
         by ! (exits t u′ g-resources g-zones g-flowgates g-f g-i (e′ ∙ ap Found e))))))))))))))))))

@@ -2,11 +2,15 @@
 -- The struct is Copy: what it owns is had twice, one copy is kept whole for the exit, and of the other what the slice owns goes to the callee, beside the lifetime's token, which comes back.
 -- Assumes nothing.
 use contract.Running.{tablesOf}
-use Rattle.readers.proofs.Walk.{_≡_, refl, ℕ, _<_, _^_, [], _∷_, Holds, length, URA, named, w64, Val, WT, hasTy, vint, SProp, ent, sep, snd∗, exE, id⊢, Lft, Share, Fml, ftrue, flft, Memory, Routine, Heap, Calls, Loops, WpFn, Tables, Atoms, sem, Lfts, Fun, fact, givenOf, tables, Given, ‵, raw, _⊛_, given, ⋆, some, later, _$_, _∵_, !, qed, by, move, drop, use1, use2, split, learn, pick, fsplit, fjoin, suffices, frame, await, done, whole, sub, look-in, look, init, forget, stop, fld, from, load, of-opd, and-then, no-more, assigns, land, returns, enter, alloc1, alloc0, params1, pass1, pass0, free1, free0, FmC, fmOf, WpFn-mono, RattleType, owns, Is, shows, uint-makes, uint-vals, uint-tells, i64, u8, usize, now, namedLft, sliceVal, ShrSlice, owned, peeks, heard, nothing, Declared, all-own, ownAt, rest, own-open, own-out, Values, Contract, Triple, calls-at, Vals, onEntry, Meets, tripleOf, entered, cited, says, needs, Stays, stay-none, walkOf, goes-none, Walks, ends-at, walked, walk-meets, yes, ensured, lasts, ℤ, sint-lawful}
+use Rattle.readers.proofs.Walk.{_≡_, refl, ℕ, _<_, _^_, [], _∷_, Holds, length, URA, named, w64, Val, WT, hasTy, vint, SProp, ent, sep, snd∗, exE, id⊢, Lft, Share, Fml, ftrue, flft, Memory, Routine, Heap, Calls, Loops, WpFn, Tables, Atoms, sem, Lfts, Fun, fact, givenOf, tables, Given, ‵, raw, _⊛_, given, ⋆, some, later, _$_, _∵_, !, qed, by, move, drop, use1, use2, split, learn, pick, fsplit, fjoin, suffices, frame, await, done, whole, sub, look-in, look, init, forget, stop, fld, from, load, of-opd, and-then, no-more, assigns, land, returns, enter, alloc1, alloc0, params1, pass1, pass0, free1, free0, FmC, fmOf, WpFn-mono, RattleType, owns, Is, shows, uint-makes, uint-vals, uint-tells, u8, usize, now, namedLft, sliceVal, ShrSlice, owned, peeks, heard, nothing, Declared, all-own, ownAt, rest, own-open, own-out, Values, Contract, Triple, calls-at, Vals, onEntry, Meets, tripleOf, entered, cited, says, needs, Stays, stay-none, walkOf, goes-none, Walks, ends-at, walked, walk-meets, yes, ensured, lasts}
 use denote.Struct.Laws as LL
 use Rattle.records.specs.Places.{FactorIn}
 use Rattle.market.specs.CaseFile.{caseOf}
+use Rattle.market.specs.Records.{shiftFactor}
 use Rattle.readers.specs.declared.CaseReader.{CaseReader}
+use Rattle.market.specs.declared.ShiftFactor.{ShiftFactor}
+use Rattle.market.proofs.ShiftFactor as S
+use Rattle.market.proofs.ShiftFactor.Laws as S′
 use Rattle.readers.proofs.CaseReader as T
 use Rattle.readers.proofs.CaseReader.Laws as T′
 use Rattle.records.proofs.shift_factor_at as step
@@ -38,8 +42,8 @@ module _ {M : Type 1} (𝓤 : URA M) (H : Heap 𝓤) (A : Atoms 𝓤) (W : Given
   abbrev v : Val
   v = sliceVal (d .bytes .ptr) (length (d .bytes .now))
 
-  abbrev found : ℤ
-  found = caseOf (now (d .bytes)) .shiftFactor f i
+  abbrev found : ShiftFactor
+  found = shiftFactor (caseOf (now (d .bytes)) .shiftFactor f i)
 
   abbrev vals : Vals this.signature (κ, tt)
   vals = (mach ∷ [], (vint w64 f ∷ [], (vint w64 i ∷ [], tt)))
@@ -81,12 +85,12 @@ module _ {M : Type 1} (𝓤 : URA M) (H : Heap 𝓤) (A : Atoms 𝓤) (W : Given
       move ! (2 ∷ 0 ∷ []) $ use2 W (raw (Callee 𝓤 H A mem run .pre to)) (asked within) $ frame ! $ done !)
 
   -- of the callee's `ensured`, the clause alone: it has no `&mut`, so what is said of last values is dropped
-  said : (r : ℤ) → ent 𝓤 (ensured 𝓤 H A step.ended (step.clauses 𝓤 H A mem run) (κ, tt) (d .bytes, ((d .resources), ((d .zones), (f, (i, tt))))) tt r) (fact 𝓤 (r ≡ found))
+  said : (r : ShiftFactor) → ent 𝓤 (ensured 𝓤 H A step.ended (step.clauses 𝓤 H A mem run) (κ, tt) (d .bytes, ((d .resources), ((d .zones), (f, (i, tt))))) tt r) (fact 𝓤 (r ≡ found))
   said r = exE 𝓤 _ (λ ws. snd∗ 𝓤 (sem 𝓤 H A (lasts step.ended (κ, tt) (d .bytes, ((d .resources), ((d .zones), (f, (i, tt))))) ws)) (fact 𝓤 (r ≡ found)))
 
-  exits : (r : ℤ) (u : Val) → f < 2 ^ 64 → i < 2 ^ 64 → r ≡ found → ent 𝓤 (⋆ 𝓤 H A (‵ (i64 .own r (u ∷ [])) ∷ (‵ (flft κ q) ⊛ ‵ ftrue) ∷ ‵ Own ∷ [])) (Post u)
+  exits : (r : ShiftFactor) (u : Val) → f < 2 ^ 64 → i < 2 ^ 64 → r ≡ found → ent 𝓤 (⋆ 𝓤 H A (‵ (S.the-row .own r (u ∷ [])) ∷ (‵ (flft κ q) ⊛ ‵ ftrue) ∷ ‵ Own ∷ [])) (Post u)
   exits r u g-f g-i e =
-      qed W (‵ (i64 .own r (u ∷ [])) ∷ (‵ (flft κ q) ⊛ ‵ ftrue) ∷ ‵ Own ∷ []) ∵
+      qed W (‵ (S.the-row .own r (u ∷ [])) ∷ (‵ (flft κ q) ⊛ ‵ ftrue) ∷ ‵ Own ∷ []) ∵
       suffices ! _ (ends-at 𝓤 H A this.ended stayed (this.clauses 𝓤 H A mem run) W (((κ, tt), (q, tt), tt, (d, (f, (i, tt))), vals), tt) u r (tt, (tt, (tt, tt))) (tt, (tt, (tt, tt)))) $ says ! e $
       move ! (1 ∷ []) $ frame ! $ nothing ! $ owned ! usize (Is usize) (uint-makes 𝓤 H A W w64) i _ (refl, g-i) $ fjoin ! $ owned ! usize (Is usize) (uint-makes 𝓤 H A W w64) f _ (refl, g-f) $ fjoin ! $ move ! (2 ∷ 0 ∷ []) $ fjoin ! $ frame ! $ done !
 
@@ -100,11 +104,11 @@ module _ {M : Type 1} (𝓤 : URA M) (H : Heap 𝓤) (A : Atoms 𝓤) (W : Given
         assigns ! (of-opd ! (load ! (from ! (fld ! refl (stop !))) (look-in ! 10 (sub ! 2 refl (whole !))))) (from ! (stop !)) (init ! 0 refl (tt, wt .1 .1 .1 .0)) $
         move ! (14 ∷ []) $ use1 W (raw (Callee 𝓤 H A mem run .pre to) ⊛ ‵ Own) (apart (wt .1 .1 .0 .fits) (wt .1 .1 .1 .0 .fits) g-f g-i within) $ split ! $
         calls-at ! fm (Callee 𝓤 H A mem run) known to (and-then ! (load ! (from ! (stop !)) (look ! 6 refl)) (and-then ! (load ! (from ! (stop !)) (look ! 4 refl)) (and-then ! (load ! (from ! (stop !)) (look ! 2 refl)) (and-then ! (load ! (from ! (stop !)) (look ! 10 refl)) (and-then ! (load ! (from ! (stop !)) (look ! 8 refl)) (no-more !)))))) (λ u.
-        use1 W (later (some (λ (r : ℤ). ((‵ (flft κ q) ⊛ ‵ ftrue) ⊛ ‵ (i64 .own r (u ∷ []))) ⊛ raw (ensured 𝓤 H A step.ended (step.clauses 𝓤 H A mem run) (κ, tt) (d .bytes, ((d .resources), ((d .zones), (f, (i, tt))))) tt r)))) (id⊢ 𝓤 _) $ await ! tt $ pick ! (λ r.
+        use1 W (later (some (λ (r : ShiftFactor). ((‵ (flft κ q) ⊛ ‵ ftrue) ⊛ ‵ (S.the-row .own r (u ∷ []))) ⊛ raw (ensured 𝓤 H A step.ended (step.clauses 𝓤 H A mem run) (κ, tt) (d .bytes, ((d .resources), ((d .zones), (f, (i, tt))))) tt r)))) (id⊢ 𝓤 _) $ await ! tt $ pick ! (λ r.
         split ! $ move ! (1 ∷ []) $ use1 W (raw (fact 𝓤 (r ≡ found))) (said r) $ heard ! (r ≡ found) (λ e. split ! $ move ! (1 ∷ []) $
         -- [the result; the token; what the struct owns; the locals, from the last to room for _0]
-        peeks ! i64 (Is i64) (shows 𝓤 H A i64) r (u ∷ []) (λ is.
-        land ! (from ! (stop !)) (init ! 15 refl (sint-lawful 𝓤 H A W w64 .typed r _ is .0)) $
+        peeks ! S.the-row (Is S.the-row) (shows 𝓤 H A S.the-row) r (u ∷ []) (λ is.
+        land ! (from ! (stop !)) (init ! 15 refl (LL.lawful S.the-type S′.the-laws 𝓤 H A W .typed r _ is .0)) $
         returns ! (look ! 15 refl) $ forget ! 3 refl $ forget ! 5 refl $ forget ! 7 refl $ forget ! 9 refl $ forget ! 11 refl $ forget ! 13 refl $ forget ! 15 refl $
         move ! (15 ∷ 16 ∷ []) $ free1 ! $ move ! (13 ∷ 14 ∷ []) $ free1 ! $ move ! (11 ∷ 12 ∷ []) $ free1 ! $ move ! (9 ∷ 10 ∷ []) $ free1 ! $ move ! (7 ∷ 8 ∷ []) $ free1 ! $ move ! (5 ∷ 6 ∷ []) $ free1 ! $ move ! (3 ∷ 4 ∷ []) $ free1 ! $ free0 ! $ by ! (exits r u g-f g-i e))))))))))))
 

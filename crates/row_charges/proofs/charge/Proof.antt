@@ -1,6 +1,6 @@
 -- `row_charges::charge` meets its contract.
+use mathlib.Core.Path.{_∙_}
 use borrow.Author.Needs.{needs}
-use Rattle.arith.proofs.Machine.{read-back}
 use Rattle.row_charges.proofs.charge.Statement.{statement}
 use Rattle.row_charges.proofs.charge.Tie as tie
 
@@ -8,7 +8,7 @@ value-requires : tie.Need-value-requires
 value-requires c κs = rw (c .kw-difference .ensures) (c .before .pre .product)
 
 returns : tie.Need-returns
-returns c = rw (read-back (c .struct-told .given .0 .1), c .before .value .ensures, c .before .before .kw-difference .ensures)
+returns c = c .value .ensures ∙ rw (c .before .kw-difference .ensures)
 
 pub charge-spec : {M : Type 1} → statement M
 charge-spec = tie.close (tie.spec (λ c κs. search needs) value-requires returns)

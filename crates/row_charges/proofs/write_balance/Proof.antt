@@ -1,9 +1,8 @@
 -- `row_charges::write_balance` meets its contract.
 use mathlib.Core.List.{[], _∷_}
 use native.Mathlib.Omega.{arith}
-use borrow.Author.Needs.{needs, sfits-of}
-use mir.Facts.{toZ-ofZ}
-use mir.Syntax.{w64}
+use borrow.Author.Needs.{needs}
+use Rattle.arith.proofs.Machine.{read-back}
 use Rattle.market.specs.CaseFile.{caseOf}
 use Rattle.market.specs.Certificate.{certificateOf}
 use Rattle.market.specs.Rows.{Balance}
@@ -27,13 +26,13 @@ charge-requires c κs =
 
 returns : tie.Need-returns
 returns c =
-    let s = c .before .before .before .before .before .before in
+    let s = c .before .before .before .before .before .before .before in
     rw (
-      toZ-ofZ (sfits-of {w = w64} (c .charge .ok)),
-      c .charge .ensures,
-      c .before .before .before .balance-price .ensures,
-      c .before .before .energy-total .ensures,
-      c .before .demand .ensures,
+      read-back (c .struct-told .given .0 .1),
+      c .before .charge .ensures,
+      c .before .before .before .before .balance-price .ensures,
+      c .before .before .before .energy-total .ensures,
+      c .before .before .demand .ensures,
       balance-charge (caseOf (s .args .b .now)) (certificateOf (s .args .q .now) .amount) (certificateOf (s .args .q .now) .price) (s .args .r) (resources-is (s .pre .0 .prices .case-bytes)),
     )
     (store-front (chargeOf (s .args .b .now) (s .args .q .now) Balance ∷ []) (s .args .out .now) (omega arith))

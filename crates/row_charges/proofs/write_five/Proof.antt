@@ -1,9 +1,8 @@
 -- `row_charges::write_five` meets its contract.
 use native.Mathlib.Omega.{arith}
 use lib.ListN.{length-set}
-use borrow.Author.Needs.{needs, sfits-of}
-use mir.Facts.{toZ-ofZ}
-use mir.Syntax.{w64}
+use borrow.Author.Needs.{needs}
+use Rattle.arith.proofs.Machine.{read-back}
 use Rattle.arith.proofs.Magnitudes.{abs-add}
 use Rattle.arith.proofs.Buffers.{store-front}
 use Rattle.row_charges.specs.Families.{fiveCharges}
@@ -31,32 +30,34 @@ charge-requires-3 c κs =
     let s = c .before .before .before .before .before .before in
     rw (c .before .before .kw-difference .ensures) (s .pre .0 .minimum)
 
-slice-set-from-short-term : tie.Need-slice-set-from-short-term
-slice-set-from-short-term c = simp length-set (omega arith)
+slice-set-from-second : tie.Need-slice-set-from-second
+slice-set-from-second c = simp length-set (omega arith)
 
-slice-set-from-minimum : tie.Need-slice-set-from-minimum
-slice-set-from-minimum c = simp length-set (omega arith)
+slice-set-from-third : tie.Need-slice-set-from-third
+slice-set-from-third c = simp length-set (omega arith)
 
-slice-set-from-high : tie.Need-slice-set-from-high
-slice-set-from-high c = simp length-set (omega arith)
+slice-set-from-fourth : tie.Need-slice-set-from-fourth
+slice-set-from-fourth c = simp length-set (omega arith)
 
 returns : tie.Need-returns
-returns c = let s = c .before .before .before .before .before .before .before .before .before in
+returns c =
+    let called = c .before .before .before .before .before in
+    let s = called .before .before .before .before .before .before .before .before .before in
     rw (
-      toZ-ofZ (sfits-of {w = w64} (c .before .before .before .before .charge .ok)),
-      toZ-ofZ (sfits-of {w = w64} (c .before .before .before .charge2 .ok)),
-      toZ-ofZ (sfits-of {w = w64} (c .before .before .charge3 .ok)),
-      toZ-ofZ (sfits-of {w = w64} (c .before .charge4 .ok)),
-      toZ-ofZ (sfits-of {w = w64} (c .charge5 .ok)),
-      c .before .before .before .before .charge .ensures,
-      c .before .before .before .charge2 .ensures,
-      c .before .before .charge3 .ensures,
-      c .before .charge4 .ensures,
-      c .charge5 .ensures,
-      c .before .before .before .before .before .kw-difference .ensures,
-      c .before .before .before .before .before .before .kw-sum3 .ensures,
-      c .before .before .before .before .before .before .before .kw-sum2 .ensures,
-      c .before .before .before .before .before .before .before .before .kw-sum .ensures,
+      read-back (c .before .before .before .before .struct-told .given .0 .1),
+      read-back (c .before .before .before .struct-told2 .given .0 .1),
+      read-back (c .before .before .struct-told3 .given .0 .1),
+      read-back (c .before .struct-told4 .given .0 .1),
+      read-back (c .struct-told5 .given .0 .1),
+      called .before .before .before .before .charge .ensures,
+      called .before .before .before .charge2 .ensures,
+      called .before .before .charge3 .ensures,
+      called .before .charge4 .ensures,
+      called .charge5 .ensures,
+      called .before .before .before .before .before .kw-difference .ensures,
+      called .before .before .before .before .before .before .kw-sum3 .ensures,
+      called .before .before .before .before .before .before .before .kw-sum2 .ensures,
+      called .before .before .before .before .before .before .before .before .kw-sum .ensures,
     )
     (store-front (fiveCharges (s .args .prices) (s .args .a) (s .args .l)) (s .args .out .now) (omega arith))
 
@@ -74,9 +75,9 @@ write-five-spec =
     (λ c κs. search needs)
     (λ c κs. search needs)
     (λ c. search needs)
-    slice-set-from-short-term
-    slice-set-from-minimum
-    slice-set-from-high
+    slice-set-from-second
+    slice-set-from-third
+    slice-set-from-fourth
     (λ c. search needs)
     (λ c. search needs)
     returns)

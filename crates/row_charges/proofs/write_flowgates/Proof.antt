@@ -5,9 +5,8 @@ use mathlib.Core.Path.{_≡_, _∙_}
 use Prim.Native.Nat.{_-_, _≤_}
 use native.Mathlib.Omega.{arith}
 use lib.ListN.{length, drop, length-set}
-use borrow.Author.Needs.{needs, sfits-of}
-use mir.Facts.{toZ-ofZ}
-use mir.Syntax.{w64}
+use borrow.Author.Needs.{needs}
+use Rattle.arith.proofs.Machine.{read-back}
 use Rattle.arith.specs.Sums.{upto}
 use Rattle.market.specs.Rows.{Flowgate}
 use Rattle.records.proofs.Places.{flowgates-is}
@@ -28,10 +27,10 @@ loop-holds c = search needs
 
 loop-again : tie.Need-loop-again Inv-loop μ-loop
 loop-again c =
-    let s = c .before .before .before .before .before in
-    let l = c .before .before .loop in
+    let s = c .before .before .before .before .before .before in
+    let l = c .before .before .before .loop in
     let h = chargeOf (s .args .b .now) (s .args .q .now) in
-    rw (toZ-ofZ (sfits-of {w = w64} (c .flowgate-charge .ok)), c .flowgate-charge .ensures) (
+    rw (read-back (c .struct-told .given .0 .1), c .before .flowgate-charge .ensures) (
       omega arith,
       length-set (l .out) (l .g) (h (Flowgate (l .g))) ∙ l .inv .1,
       row-written h Flowgate (l .g) (s .args .out .now) (l .out) (omega arith) (l .inv .2),

@@ -8,18 +8,15 @@ use Rattle.market.specs.CaseFile.{caseOf}
 use Rattle.market.specs.UpperBounds.{energy}
 use Rattle.market.specs.Certificate.{certificateOf}
 use Rattle.market.specs.InWords.{kwOf}
-use Rattle.market.specs.Records.{kw, amountsOf}
+use Rattle.market.specs.Records.{watts, amountsOf}
 use Rattle.records.proofs.Places.{factor-in}
 use Rattle.rows.proofs.Known.{part-room, flow-room}
-use borrow.Author.Needs.{sfits-of}
-use mir.Facts.{toZ-ofZ}
-use mir.Syntax.{w64}
 use borrow.Author.Needs.{needs}
 use Rattle.rows.proofs.flow.Statement.{statement}
 use Rattle.rows.proofs.flow.Tie as tie
 
 abbrev Inv-loop : tie.InvT-loop
-Inv-loop b q r z f g sum₀ i₀ sum i = (i ≤ r) × (sum ≡ kw (sumOf (λ j. caseOf b .shiftFactor g j *ℤ kwOf (certificateOf q .amount) j energy) (upto i)))
+Inv-loop b q r z f g sum₀ i₀ sum i = (i ≤ r) × (sum ≡ watts (sumOf (λ j. caseOf b .shiftFactor g j *ℤ kwOf (certificateOf q .amount) j energy) (upto i)))
 
 abbrev μ-loop : tie.MeasureT-loop
 μ-loop b q r z f g sum₀ i₀ sum i = r - i
@@ -38,25 +35,25 @@ flow-requires : tie.Need-flow-requires Inv-loop μ-loop
 unfolding amountsOf
 flow-requires c κs =
     let s = c .before .before .before .before .before .before in
-    rw (toZ-ofZ (sfits-of {w = w64} (c .before .shift-factor-at .ok)), c .before .shift-factor-at .ensures, c .amounts-at .ensures)
+    rw (c .before .shift-factor-at .ensures, c .amounts-at .ensures)
     (part-room (s .pre .0) (s .args .g) (c .before .before .before .loop .i) (s .pre .1) (omega arith))
 
 -- the resource's part
 part : (c : tie.After-flow Inv-loop μ-loop) →
     let s = c .before .before .before .before .before .before .before in
     let i = c .before .before .before .before .loop .i in
-    c .flow .result ≡ kw ((caseOf (s .args .b .now)) .shiftFactor (s .args .g) i *ℤ kwOf (certificateOf (s .args .q .now) .amount) i energy)
+    c .flow .result ≡ watts ((caseOf (s .args .b .now)) .shiftFactor (s .args .g) i *ℤ kwOf (certificateOf (s .args .q .now) .amount) i energy)
 unfolding amountsOf
-part c = c .flow .ensures ∙ rw (toZ-ofZ (sfits-of {w = w64} (c .before .before .shift-factor-at .ok)), c .before .before .shift-factor-at .ensures, c .before .amounts-at .ensures)
+part c = c .flow .ensures ∙ rw (c .before .before .shift-factor-at .ensures, c .before .amounts-at .ensures)
 
-kw-sum-requires : tie.Need-kw-sum-requires Inv-loop μ-loop
-kw-sum-requires c κs =
+watts-sum-requires : tie.Need-watts-sum-requires Inv-loop μ-loop
+watts-sum-requires c κs =
     let s = c .before .before .before .before .before .before .before in
     rw (part c, c .before .before .before .before .loop .inv .1)
     (flow-room (s .pre .0) (s .args .g) (c .before .before .before .before .loop .i) (s .pre .1) (omega arith))
 
 loop-again : tie.Need-loop-again Inv-loop μ-loop
-loop-again c = (omega arith, c .kw-sum .ensures ∙ rw (part (c .before), c .before .before .before .before .before .loop .inv .1, sum-upto))
+loop-again c = (omega arith, c .watts-sum .ensures ∙ rw (part (c .before), c .before .before .before .before .before .loop .inv .1, sum-upto))
 
 returns : tie.Need-returns Inv-loop μ-loop
 returns c =
@@ -74,7 +71,7 @@ flow-spec =
     shift-factor-at-requires
     amounts-at-requires
     flow-requires
-    kw-sum-requires
+    watts-sum-requires
     (λ c. search needs)
     (λ c. search needs)
     loop-again

@@ -7,7 +7,7 @@ use Rattle.market.specs.Certificate.{certificateOf}
 use Rattle.market.specs.Outcome.{rowMet}
 use Rattle.market.proofs.FirstFailing.{passes, fails, first-none}
 use Rattle.records.proofs.Places.{flowgate-in, resources-is}
-use Rattle.rows.proofs.Known.{limit-room}
+use Rattle.prices.proofs.Known.{limit-room}
 use Rattle.rows.proofs.Search.{found-some}
 use Rattle.rows.proofs.Tests.{flowgate-met}
 use borrow.Author.Needs.{needs}
@@ -17,17 +17,17 @@ use Rattle.rows.proofs.flowgate_over.Tie as tie
 flowgate-limit-at-requires : tie.Need-flowgate-limit-at-requires
 flowgate-limit-at-requires c κs = let s = c .before .before .before in flowgate-in (s .pre .0 .prices .case-bytes) (s .args .g) (s .pre .1 .0)
 
-flow-requires-2 : tie.Need-flow-requires-2
-flow-requires-2 c κs = let s = c .before .before .before .before in rw (c .flowgate-limit-at .ensures) (limit-room (s .pre .0) (s .args .g) (s .pre .1 .0))
+in-watts-requires : tie.Need-in-watts-requires
+in-watts-requires c κs = let s = c .before .before .before .before in rw (c .flowgate-limit-at .ensures) (limit-room (s .pre .0 .prices) (s .args .g) (s .pre .1 .0))
 
 -- the test is the row's
-told : (c : tie.After-at-least) →
+told : (c : tie.After-watts-at-least) →
     let s = c .before .before .before .before .before .before in
-    c .at-least .result ≡ rowMet (caseOf (s .args .b .now)) (certificateOf (s .args .q .now)) (Flowgate (s .args .g))
+    c .watts-at-least .result ≡ rowMet (caseOf (s .args .b .now)) (certificateOf (s .args .q .now)) (Flowgate (s .args .g))
 told c =
     let s = c .before .before .before .before .before .before in
-    c .at-least .ensures
-    ∙ rw (c .before .flow2 .ensures, c .before .before .flowgate-limit-at .ensures, c .before .before .before .flow .ensures) (flowgate-met (caseOf (s .args .b .now)) (certificateOf (s .args .q .now)) (s .args .r) (s .args .g) (resources-is (s .pre .0 .prices .case-bytes)))
+    c .watts-at-least .ensures
+    ∙ rw (c .before .in-watts .ensures, c .before .before .flowgate-limit-at .ensures, c .before .before .before .flow .ensures) (flowgate-met (caseOf (s .args .b .now)) (certificateOf (s .args .q .now)) (s .args .r) (s .args .g) (resources-is (s .pre .0 .prices .case-bytes)))
 
 returns : tie.Need-returns
 returns c =
@@ -45,7 +45,7 @@ flowgate-over-spec =
     (tie.spec
     (λ c κs. search needs)
     flowgate-limit-at-requires
-    flow-requires-2
+    in-watts-requires
     (λ c κs. search needs)
     returns
     returns-2)
