@@ -22,9 +22,16 @@ max-first m n t = omega (arith, ltb-false m n t)
 pub nothing-left : (m n : ℕ) → ltb m n ≡ true → 0 ≡ m - n
 nothing-left m n t = omega (arith, ltb-true m n t)
 
--- 8,000,000 kW × 60,000 is the most that is divided
-pub product-most : (m times : ℕ) → m ≤ 8000000 → times ≤ 60000 → m * times ≤ 480000000000
+pub five-times : (n : ℕ) → n * 5 ≡ 5 * n
+five-times n = omega arith
+
+-- 400,000 kW a minute for 60 minutes
+pub ramp-most : (n minutes : ℕ) → n ≤ 400000 → minutes ≤ 60 → n * minutes ≤ 24000000
+ramp-most n minutes h k = omega (arith, mul-le-mul h k)
+
+-- 24,000,000 kW × 1,000 is the most that is divided
+pub product-most : (m times : ℕ) → m ≤ 24000000 → times ≤ 1000 → m * times ≤ 24000000000
 product-most m times h k = omega (arith, mul-le-mul h k)
 
-pub quotient-most : (m times over : ℕ) → m ≤ 8000000 → times ≤ 60000 → m * times / over ≤ 480000000000
+pub quotient-most : (m times over : ℕ) → m ≤ 24000000 → times ≤ 1000 → m * times / over ≤ 24000000000
 quotient-most m times over h k = omega (arith, product-most m times h k, div-le-self (m * times) over)

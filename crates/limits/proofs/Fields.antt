@@ -1,12 +1,14 @@
 -- What a record says of the figures that it stands for: its amounts field by field, and tests of its flags and status.
 use mathlib.Core.Path.{_≡_, refl, sym, ap, _∙_}
-use mathlib.Core.Bool.{Bool, true, false, not, cond}
+use mathlib.Core.Bool.{Bool, true, false, not, cond, _||_}
 use Prim.Native.Nat.{ℕ}
 use borrow.Author.Tests.{not-true, not-false}
+use Rattle.market.specs.Bits.{spinningFlag, onLineSupplemental}
 use Rattle.market.specs.Case.{Resource as Figures}
-use Rattle.market.specs.Records.{power, recordOf, stateOf, outputLimitsOf, rampsOf, startsOf}
+use Rattle.market.specs.Records.{power, perMinute, recordOf, stateOf, outputLimitsOf, rampsOf, startsOf}
 use Rattle.market.specs.declared.Kw.{Kw}
 use Rattle.market.specs.declared.Resource.{Resource}
+use Rattle.market.proofs.StatusBits.{on-line-supplemental-kept}
 
 module _ {r : Resource} (s : Figures) (e : r ≡ recordOf s) where
   pub state-is : r .state ≡ stateOf s
@@ -37,15 +39,15 @@ module _ {r : Resource} (s : Figures) (e : r ≡ recordOf s) where
   unfolding recordOf outputLimitsOf
   emergency-min-is = ap (λ (x : Resource). x .limits .«emergency_min») e
 
-  pub ramp-up-is : r .ramps .up ≡ power (s .rampUp)
+  pub ramp-up-is : r .ramps .up ≡ perMinute (s .rampUp)
   unfolding recordOf rampsOf
   ramp-up-is = ap (λ (x : Resource). x .ramps .up) e
 
-  pub ramp-down-is : r .ramps .down ≡ power (s .rampDown)
+  pub ramp-down-is : r .ramps .down ≡ perMinute (s .rampDown)
   unfolding recordOf rampsOf
   ramp-down-is = ap (λ (x : Resource). x .ramps .down) e
 
-  pub ramp-rate-is : r .ramps .rate ≡ power (s .rampRate)
+  pub ramp-rate-is : r .ramps .rate ≡ perMinute (s .rampRate)
   unfolding recordOf rampsOf
   ramp-rate-is = ap (λ (x : Resource). x .ramps .rate) e
 
@@ -70,10 +72,13 @@ module _ {r : Resource} (s : Figures) (e : r ≡ recordOf s) where
   unfolding recordOf stateOf
   flags-are f told = told ∙ ap (λ (x : Resource). f (x .state .flags .0)) e
 
-  -- of flags and status
-  pub bits-are : (f : ℕ → ℕ → Bool) {t : Bool} → t ≡ f (r .state .flags .0) (r .state .status .0) → t ≡ f (s .flags) (s .status)
+  -- and so is the one of flag 2 and status 8
+  pub carries-is : {t : Bool} → t ≡ (spinningFlag (r .state .flags .0) || onLineSupplemental (r .state .status .0)) → t ≡ (spinningFlag (s .flags) || onLineSupplemental (s .status))
   unfolding recordOf stateOf
-  bits-are f told = told ∙ ap (λ (x : Resource). f (x .state .flags .0) (x .state .status .0)) e
+  carries-is told =
+      told
+      ∙ ap (λ (x : Resource). spinningFlag (x .state .flags .0) || onLineSupplemental (x .state .status .0)) e
+      ∙ ap (λ (b : Bool). spinningFlag (s .flags) || b) (on-line-supplemental-kept (s .status))
 
 -- ---- tests: u is what a call answered, and `!answer` led on or did not
 pub told-false : {t u : Bool} → t ≡ u → not t ≡ true → u ≡ false

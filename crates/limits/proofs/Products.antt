@@ -19,16 +19,14 @@ module _ {t : ReserveTerms} (c : Case) (p : Reserve) (e : t ≡ reserveTermsOf c
   unfolding reserveTermsOf
   requirement-is = ap (λ (x : ReserveTerms). x .requirement) e
 
-  pub ramp-is : (s : Figures) → s .rampRate * (t .minutes * 1000) / t .multiplier ≡ RAMP c p s
+  pub ramp-is : (s : Figures) → s .rampRate * t .minutes .0 * 1000 / t .multiplier .0 ≡ RAMP c p s
   unfolding reserveTermsOf RAMP
-  ramp-is s =
-      ap (λ (x : ReserveTerms). s .rampRate * (x .minutes * 1000) / x .multiplier) e
-      ∙ ap (λ (n : ℕ). n / c .multiplier p) (omega arith)
+  ramp-is s = ap (λ (x : ReserveTerms). s .rampRate * x .minutes .0 * 1000 / x .multiplier .0) e
 
-  pub share-is : c .requirement p * t .share / 1000 ≡ SHARE c p
+  pub share-is : c .requirement p * t .share .0 / 1000 ≡ SHARE c p
   unfolding reserveTermsOf SHARE
   share-is =
-      ap (λ (x : ReserveTerms). c .requirement p * x .share / 1000) e
+      ap (λ (x : ReserveTerms). c .requirement p * x .share .0 / 1000) e
       ∙ ap (λ (n : ℕ). n / 1000) (omega arith)
 
 -- ---- the three reserves

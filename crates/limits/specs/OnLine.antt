@@ -11,7 +11,7 @@ abbrev pub atLeast500 : ℤ → Bool
 atLeast500 output = leZ (pos 500) output || leZ output (negℤ (pos 500))
 
 unfoldable pub conventionalOnLine : State → Bool
-conventionalOnLine t = eqb (t .kind) 1 && atLeast500 (t .output .0) && eqb (t .breaker) 1 && ltb 15 (t .trip)
+conventionalOnLine t = eqb (t .kind) 1 && atLeast500 (t .output .0) && eqb (t .breaker) 1 && ltb 15 (t .trip .0)
 
 unfoldable pub intermittentOnLine : State → Bool
 intermittentOnLine t = eqb (t .kind) 2 && committed (t .status .0) && eqb (t .breaker) 1 && ltZ (pos 0) (t .output .0)

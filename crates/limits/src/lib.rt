@@ -12,7 +12,7 @@ ghost use Rattle.market.specs.Availability.{onLine};
 ghost use Rattle.market.specs.Limits.{MAX, MIN, HI, LO, rampFloor};
 ghost use Rattle.market.specs.UpperBounds.{RAMP, SHARE, onLineBound, serviceBound, upperBound, energy, regulation, contingency, onLineShortTerm, offLineShortTerm, Cleared};
 ghost use Rattle.market.specs.CaseFile.{caseOf};
-ghost use Rattle.market.specs.Records.{power, stateOf, recordOf, reserveTermsOf, offerStepsOf, curveStepsOf};
+ghost use Rattle.market.specs.Records.{power, perMinute, stateOf, recordOf, reserveTermsOf, offerStepsOf, curveStepsOf};
 ghost use Rattle.records.specs.Places.{HeadIn};
 ghost use Rattle.records.specs.Ranged.{UpTo, Ranged, RangedSteps, RangedTerms, RangedCurve};
 ghost use Rattle.limits.specs.OffLine.{offLineContingency};
@@ -20,10 +20,13 @@ ghost use Rattle.limits.specs.Together.{limitsOf, termsOf, TermsRanged, 
 ghost use Rattle.limits.specs.OnLine.{atLeast500, conventionalOnLine, intermittentOnLine, externalOnLine};
 use market::CurveSteps;
 use market::Kw;
+use market::KwPerMinute;
+use market::Minutes;
 use market::OfferSteps;
 use market::ReserveTerms;
 use market::Resource;
 use market::State;
+use market::Thousandths;
 
 // ---- amounts: only these functions look into a kilowatt figure
 
@@ -34,12 +37,13 @@ fn plus(a: Kw, b: Kw) -> Kw
     Kw(a.0 + b.0)
 }
 
-// What five minutes make of an amount a minute.
-fn in_five_minutes(a: Kw) -> Kw
-    requires { ⌜ natAbs (a .0) ≤ 1000000 ⌝ }
-    ensures { λ r. ⌜ ((n : ℕ) → a ≡ power n → r ≡ power (5 * n)) × (natAbs (r .0) ≤ 5000000) ⌝ }
+// What so many minutes make of a ramp.
+fn ramped(rate: KwPerMinute, minutes: Minutes) -> Kw
+    requires { ⌜ UpTo (rate .0) 400000 × (minutes .0 ≤ 60) ⌝ }
+    ensures { λ r. ⌜ ((n : ℕ) → rate ≡ perMinute n → r ≡ power (n * minutes .0)) × UpTo (r .0) 24000000 ⌝ }
 {
-    Kw(5 * a.0)
+    let n = minutes.0 as i64;
+    Kw(rate.0 * n)
 }
 
 // a - b, at least 0.
@@ -73,21 +77,15 @@ fn larger(a: Kw, b: Kw) -> Kw
     a
 }
 
-// n × times / over, rounded down: first multiplied, then divided.
-fn quotient(n: u64, times: u64, over: u64) -> u64
-    requires { ⌜ (n * times ≤ 480000000000) × (1 ≤ over) ⌝ }
-    ensures { λ q. ⌜ q ≡ n * times / over ⌝ }
-{
-    n * times / over
-}
-
-// a × times / over, as an amount.
-fn portion(a: Kw, times: u64, over: u64) -> Kw
-    requires { ⌜ UpTo (a .0) 8000000 × ((times ≤ 60000) × (1 ≤ over)) ⌝ }
-    ensures { λ r. ⌜ ((n : ℕ) → a ≡ power n → r ≡ power (n * times / over)) ⌝ }
+// a × times / over, rounded down: first multiplied, then divided.
+fn portion(a: Kw, times: Thousandths, over: Thousandths) -> Kw
+    requires { ⌜ UpTo (a .0) 24000000 × ((times .0 ≤ 1000) × (1 ≤ over .0)) ⌝ }
+    ensures { λ r. ⌜ ((n : ℕ) → a ≡ power n → r ≡ power (n * times .0 / over .0)) ⌝ }
 {
     let n = a.0 as u64;
-    Kw(quotient(n, times, over) as i64)
+    let m = times.0 as u64;
+    let d = over.0 as u64;
+    Kw((n * m / d) as i64)
 }
 
 // At least 500 kW, produced or taken.
@@ -123,7 +121,8 @@ fn conventional(t: State) -> bool
     if t.breaker != 1 {
         return false;
     }
-    t.trip > 15
+    let trip = t.trip;
+    trip.0 > 15
 }
 
 // Kind 2.
@@ -248,7 +247,7 @@ fn high_limit(on: bool, r: Resource) -> Kw
     if !on {
         return r.limits.economic_max;
     }
-    let climb = in_five_minutes(r.ramps.up);
+    let climb = ramped(r.ramps.up, Minutes(5));
     plus(r.starts.initial, climb)
 }
 
@@ -257,7 +256,7 @@ fn ramp_floor(r: Resource) -> Kw
     requires { ⌜ Ranged r ⌝ }
     ensures { λ m. ⌜ ((s : Figures) → r ≡ recordOf s → m ≡ power (rampFloor s)) ⌝ }
 {
-    let fall = in_five_minutes(r.ramps.down);
+    let fall = ramped(r.ramps.down, Minutes(5));
     less(r.starts.initial, fall)
 }
 
@@ -322,9 +321,8 @@ fn ramp_bound(terms: ReserveTerms, r: Resource) -> Kw
     requires { ⌜ RangedTerms terms × Ranged r ⌝ }
     ensures { λ m. ⌜ ((c : Case) (p : Reserve) (s : Figures) → terms ≡ reserveTermsOf c p → r ≡ recordOf s → m ≡ power (RAMP c p s)) ⌝ }
 {
-    let minutes = terms.minutes as u64;
-    let multiplier = terms.multiplier as u64;
-    portion(r.ramps.rate, minutes * 1000, multiplier)
+    let climb = ramped(r.ramps.rate, terms.minutes);
+    portion(climb, Thousandths::ONE, terms.multiplier)
 }
 
 // SHARE
@@ -332,8 +330,7 @@ fn share_bound(terms: ReserveTerms) -> Kw
     requires { ⌜ RangedTerms terms ⌝ }
     ensures { λ m. ⌜ ((c : Case) (p : Reserve) → terms ≡ reserveTermsOf c p → m ≡ power (SHARE c p)) ⌝ }
 {
-    let share = terms.share as u64;
-    portion(terms.requirement, share, 1000)
+    portion(terms.requirement, terms.share, Thousandths::ONE)
 }
 
 // The least of RAMP, SHARE and MAX, which is `most`.

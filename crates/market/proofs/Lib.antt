@@ -28,3 +28,4 @@ pub mod FileTrips
 pub mod RoundTrips
 pub mod InOrder
 pub mod FirstFailing
+pub mod StatusBits

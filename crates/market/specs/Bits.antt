@@ -30,6 +30,10 @@ statusIf false n = OutOfRange
 abbrev pub statusOf : ℕ → StatusRead
 statusOf n = statusIf (leb n 15) n
 
+-- the bits up to 8 of any byte
+abbrev pub statusBits : ℕ → ℕ
+statusBits n = n % 16
+
 -- ---- flags
 abbrev pub regulatingFlag : ℕ → Bool
 regulatingFlag = has 1

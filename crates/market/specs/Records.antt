@@ -3,6 +3,9 @@ use mathlib.Core.List.{[], _∷_}
 use Prim.Native.Nat.{ℕ}
 use lib.IntN.{ℤ, pos}
 use Rattle.market.specs.declared.Kw.{Kw}
+use Rattle.market.specs.declared.KwPerMinute.{KwPerMinute}
+use Rattle.market.specs.declared.Minutes.{Minutes}
+use Rattle.market.specs.declared.Thousandths.{Thousandths}
 use Rattle.market.specs.declared.Cents.{Cents}
 use Rattle.market.specs.declared.Millicents.{Millicents}
 use Rattle.market.specs.declared.Watts.{Watts}
@@ -24,6 +27,7 @@ use Rattle.market.specs.declared.LimitPrices.{LimitPrices}
 use Rattle.market.specs.declared.CurveAmounts.{CurveAmounts}
 use Rattle.market.specs.declared.ReservePrices.{ReservePrices}
 use Rattle.market.specs.declared.Resource as D
+use Rattle.market.specs.Bits.{statusBits}
 use Rattle.market.specs.Case.{Case, Resource, Curve, Reserve, operating, regulatingPlusSpinning, regulating, shortTerm}
 use Rattle.market.specs.UpperBounds.{Cleared, Provided, energy, regulation, contingency, onLineShortTerm, offLineShortTerm, Schedule}
 use Rattle.market.specs.Rows.{Row, Limited, maxWithReserve, maxWithShortTerm, minimum, high, low}
@@ -47,12 +51,21 @@ shiftFactor v = record { 0 = v }
 abbrev pub grains : ℤ → Grains
 grains v = record { 0 = v }
 
--- a figure of the case in its unit
+-- a figure of the case, which is not negative, in its unit
 abbrev pub power : ℕ → Kw
 power n = kw (pos n)
 
 abbrev pub price : ℕ → Cents
 price n = cents (pos n)
+
+abbrev pub perMinute : ℕ → KwPerMinute
+perMinute n = record { 0 = pos n }
+
+abbrev pub minutes : ℕ → Minutes
+minutes n = record { 0 = n }
+
+abbrev pub thousandths : ℕ → Thousandths
+thousandths n = record { 0 = n }
 
 abbrev pub countsIn : Case → Counts
 countsIn c = record { resources = c .resources; zones = c .zones; flowgates = c .flowgates }
@@ -74,8 +87,8 @@ stateOf r =
       kind = r .kind;
       zone = r .zone;
       breaker = r .breaker;
-      status = record { 0 = r .status };
-      trip = r .trip;
+      status = record { 0 = statusBits (r .status) };
+      trip = minutes (r .trip);
       flags = record { 0 = r .flags };
       output = kw (r .output);
     }
@@ -92,7 +105,7 @@ outputLimitsOf r =
     }
 
 unfoldable pub rampsOf : Resource → Ramps
-rampsOf r = record { up = power (r .rampUp); down = power (r .rampDown); rate = power (r .rampRate) }
+rampsOf r = record { up = perMinute (r .rampUp); down = perMinute (r .rampDown); rate = perMinute (r .rampRate) }
 
 unfoldable pub startsOf : Resource → Starts
 startsOf r =
@@ -114,7 +127,8 @@ recordOf r =
 
 -- what a case says of a reserve
 unfoldable pub reserveTermsOf : Case → Reserve → ReserveTerms
-reserveTermsOf c p = record { multiplier = c .multiplier p; minutes = c .minutes p; share = c .share p; requirement = power (c .requirement p) }
+reserveTermsOf c p =
+    record { multiplier = thousandths (c .multiplier p); minutes = minutes (c .minutes p); share = thousandths (c .share p); requirement = power (c .requirement p) }
 
 unfoldable pub curveStepOf : Case → Curve → ℕ → Step
 curveStepOf c k j = record { width = power (c .curveWidth k j); price = price (c .curvePrice k j) }

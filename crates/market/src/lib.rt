@@ -1,11 +1,23 @@
 // The types of a dispatch interval: units, status bits and flags, records of the case, refusals and answers.
 // The definitions of document 01 stand in specs/, what is proved of them in proofs/.
 ghost use mathlib.Core.Path.{_≡_};
-ghost use Rattle.market.specs.Bits.{committed, available, activeSchedule, onLineSupplemental, regulatingFlag, spinningFlag, offLineSupplementalFlag, offLineShortTermFlag, emergencyMaximumFlag, selfScheduledFlag, emergencyMinimumFlag, onLineShortTermFlag, statusOf};
+ghost use Rattle.market.specs.Bits.{committed, available, activeSchedule, onLineSupplemental, regulatingFlag, spinningFlag, offLineSupplementalFlag, offLineShortTermFlag, emergencyMaximumFlag, selfScheduledFlag, emergencyMinimumFlag, onLineShortTermFlag, statusOf, statusBits};
 ghost use Rattle.market.specs.Refusals.{numberOf, placeOf};
 
 // Power, in kW.
 pub struct Kw(pub i64);
+
+// Ramps, in kW a minute.
+pub struct KwPerMinute(pub i64);
+
+pub struct Minutes(pub u32);
+
+// Multipliers and shares, in thousandths.
+pub struct Thousandths(pub u32);
+
+impl Thousandths {
+    pub const ONE: Thousandths = Thousandths(1000);
+}
 
 // Offer, curve and flowgate prices, in cents per MWh.
 pub struct Cents(pub i64);
@@ -22,8 +34,8 @@ pub struct ShiftFactor(pub i64);
 // Cost, bound and charges. 'Grain' is document 01's own term: one thousandth of a cent per MWh times one kW.
 pub struct Grains(pub i64);
 
-// A resource's status bits; none above 8 is set.
-pub struct Status(pub u8);
+// A resource's status bits; none above 8 is set. Only this crate makes one of a byte.
+pub struct Status(u8);
 
 pub enum StatusRead {
     Bits(Status),
@@ -31,69 +43,76 @@ pub enum StatusRead {
 }
 
 impl Status {
-    pub const COMMITTED: u8 = 1;
+    pub const COMMITTED: Status = Status(1);
 
-    pub const AVAILABLE: u8 = 2;
+    pub const AVAILABLE: Status = Status(2);
 
-    pub const ACTIVE_SCHEDULE: u8 = 4;
+    pub const ACTIVE_SCHEDULE: Status = Status(4);
 
-    pub const ON_LINE_SUPPLEMENTAL: u8 = 8;
+    pub const ON_LINE_SUPPLEMENTAL: Status = Status(8);
 
-    pub const MOST: u8 = 15;
+    pub const MOST: Status = Status(15);
 
     pub fn of(bits: u8) -> StatusRead
         ensures { λ r. ⌜ r ≡ statusOf bits ⌝ }
     {
-        if bits > Status::MOST {
+        if bits > Status::MOST.0 {
             return StatusRead::OutOfRange;
         }
         StatusRead::Bits(Status(bits))
     }
 
+    // The status bits of any byte; of a byte in range, all that it has.
+    pub fn masked(byte: u8) -> Status
+        ensures { λ r. ⌜ r .0 ≡ statusBits byte ⌝ }
+    {
+        Status(byte % (Status::MOST.0 + 1))
+    }
+
     pub fn committed(self) -> bool
         ensures { λ r. ⌜ r ≡ committed (self .0) ⌝ }
     {
-        self.0 / Status::COMMITTED % 2 == 1
+        self.0 / Status::COMMITTED.0 % 2 == 1
     }
 
     pub fn available(self) -> bool
         ensures { λ r. ⌜ r ≡ available (self .0) ⌝ }
     {
-        self.0 / Status::AVAILABLE % 2 == 1
+        self.0 / Status::AVAILABLE.0 % 2 == 1
     }
 
     pub fn active_schedule(self) -> bool
         ensures { λ r. ⌜ r ≡ activeSchedule (self .0) ⌝ }
     {
-        self.0 / Status::ACTIVE_SCHEDULE % 2 == 1
+        self.0 / Status::ACTIVE_SCHEDULE.0 % 2 == 1
     }
 
     pub fn on_line_supplemental(self) -> bool
         ensures { λ r. ⌜ r ≡ onLineSupplemental (self .0) ⌝ }
     {
-        self.0 / Status::ON_LINE_SUPPLEMENTAL % 2 == 1
+        self.0 / Status::ON_LINE_SUPPLEMENTAL.0 % 2 == 1
     }
 }
 
 // A resource's flags; any byte.
-pub struct Flags(pub u8);
+pub struct Flags(u8);
 
 impl Flags {
-    pub const REGULATING: u8 = 1;
+    pub const REGULATING: Flags = Flags(1);
 
-    pub const SPINNING: u8 = 2;
+    pub const SPINNING: Flags = Flags(2);
 
-    pub const OFF_LINE_SUPPLEMENTAL: u8 = 4;
+    pub const OFF_LINE_SUPPLEMENTAL: Flags = Flags(4);
 
-    pub const OFF_LINE_SHORT_TERM: u8 = 8;
+    pub const OFF_LINE_SHORT_TERM: Flags = Flags(8);
 
-    pub const EMERGENCY_MAXIMUM: u8 = 16;
+    pub const EMERGENCY_MAXIMUM: Flags = Flags(16);
 
-    pub const SELF_SCHEDULED: u8 = 32;
+    pub const SELF_SCHEDULED: Flags = Flags(32);
 
-    pub const EMERGENCY_MINIMUM: u8 = 64;
+    pub const EMERGENCY_MINIMUM: Flags = Flags(64);
 
-    pub const ON_LINE_SHORT_TERM: u8 = 128;
+    pub const ON_LINE_SHORT_TERM: Flags = Flags(128);
 
     pub fn of(bits: u8) -> Flags
         ensures { λ r. ⌜ r .0 ≡ bits ⌝ }
@@ -104,49 +123,49 @@ impl Flags {
     pub fn regulating(self) -> bool
         ensures { λ r. ⌜ r ≡ regulatingFlag (self .0) ⌝ }
     {
-        self.0 / Flags::REGULATING % 2 == 1
+        self.0 / Flags::REGULATING.0 % 2 == 1
     }
 
     pub fn spinning(self) -> bool
         ensures { λ r. ⌜ r ≡ spinningFlag (self .0) ⌝ }
     {
-        self.0 / Flags::SPINNING % 2 == 1
+        self.0 / Flags::SPINNING.0 % 2 == 1
     }
 
     pub fn off_line_supplemental(self) -> bool
         ensures { λ r. ⌜ r ≡ offLineSupplementalFlag (self .0) ⌝ }
     {
-        self.0 / Flags::OFF_LINE_SUPPLEMENTAL % 2 == 1
+        self.0 / Flags::OFF_LINE_SUPPLEMENTAL.0 % 2 == 1
     }
 
     pub fn off_line_short_term(self) -> bool
         ensures { λ r. ⌜ r ≡ offLineShortTermFlag (self .0) ⌝ }
     {
-        self.0 / Flags::OFF_LINE_SHORT_TERM % 2 == 1
+        self.0 / Flags::OFF_LINE_SHORT_TERM.0 % 2 == 1
     }
 
     pub fn emergency_maximum(self) -> bool
         ensures { λ r. ⌜ r ≡ emergencyMaximumFlag (self .0) ⌝ }
     {
-        self.0 / Flags::EMERGENCY_MAXIMUM % 2 == 1
+        self.0 / Flags::EMERGENCY_MAXIMUM.0 % 2 == 1
     }
 
     pub fn self_scheduled(self) -> bool
         ensures { λ r. ⌜ r ≡ selfScheduledFlag (self .0) ⌝ }
     {
-        self.0 / Flags::SELF_SCHEDULED % 2 == 1
+        self.0 / Flags::SELF_SCHEDULED.0 % 2 == 1
     }
 
     pub fn emergency_minimum(self) -> bool
         ensures { λ r. ⌜ r ≡ emergencyMinimumFlag (self .0) ⌝ }
     {
-        self.0 / Flags::EMERGENCY_MINIMUM % 2 == 1
+        self.0 / Flags::EMERGENCY_MINIMUM.0 % 2 == 1
     }
 
     pub fn on_line_short_term(self) -> bool
         ensures { λ r. ⌜ r ≡ onLineShortTermFlag (self .0) ⌝ }
     {
-        self.0 / Flags::ON_LINE_SHORT_TERM % 2 == 1
+        self.0 / Flags::ON_LINE_SHORT_TERM.0 % 2 == 1
     }
 }
 
@@ -171,13 +190,13 @@ pub struct CurveSteps {
     pub of: [Step; 4],
 }
 
-// A resource's record, read by value.
+// A resource's record, read by value. `trip` is the time since the last trip, 255 for none.
 pub struct State {
     pub kind: u8,
     pub zone: u8,
     pub breaker: u8,
     pub status: Status,
-    pub trip: u8,
+    pub trip: Minutes,
     pub flags: Flags,
     pub output: Kw,
 }
@@ -191,11 +210,10 @@ pub struct OutputLimits {
     pub emergency_max: Kw,
 }
 
-// In kW a minute.
 pub struct Ramps {
-    pub up: Kw,
-    pub down: Kw,
-    pub rate: Kw,
+    pub up: KwPerMinute,
+    pub down: KwPerMinute,
+    pub rate: KwPerMinute,
 }
 
 pub struct Starts {
@@ -220,11 +238,11 @@ pub struct Resource {
     pub offers: ReserveOffers,
 }
 
-// What a case says of one reserve: the multiplier and the largest share in thousandths, minutes, the market requirement.
+// What a case says of one reserve: the multiplier, minutes, the largest share, the market requirement.
 pub struct ReserveTerms {
-    pub multiplier: u32,
-    pub minutes: u32,
-    pub share: u32,
+    pub multiplier: Thousandths,
+    pub minutes: Minutes,
+    pub share: Thousandths,
     pub requirement: Kw,
 }
 

@@ -2,6 +2,8 @@
 // Each function tests some fields by their place; all but one end at the first that is out of range. They ask that these fields
 // lie within the file; `fields_in_range` asks that the file is past refusals 1 to 4.
 use market::Counts;
+use market::Status;
+use market::StatusRead;
 ghost use mathlib.Core.Path.{_≡_};
 ghost use mathlib.Core.Bool.{_&&_};
 ghost use Prim.Native.Nat.{_+_, _*_, _<_};
@@ -81,9 +83,9 @@ fn state_in_range(b: &[u8], at: usize, zones: usize) -> bool
     if !byte_between(b, at + 2, 0, 1) {
         return false;
     }
-    if !byte_between(b, at + 3, 0, 15) {
+    let StatusRead::Bits(_) = Status::of(wire::u8_at(b, at + 3)) else {
         return false;
-    }
+    };
     word_either_way(b, at + 6, 2000000)
 }
 

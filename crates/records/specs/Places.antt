@@ -8,7 +8,7 @@ use Rattle.wire.specs.Within.{Within}
 pub use Rattle.wire.specs.CaseBytes.{CaseBytes}
 use Rattle.market.specs.Bytes.{u8At, u16At, u32At}
 use Rattle.market.specs.CaseFile.{resourcePlace, flowgatePlace, caseSize}
-use Rattle.market.specs.Records.{power, price}
+use Rattle.market.specs.Records.{power, price, minutes, thousandths}
 use Rattle.market.specs.declared.Step.{Step}
 use Rattle.market.specs.declared.ReserveTerms.{ReserveTerms}
 
@@ -41,7 +41,12 @@ pub record FactorIn (b : List ℕ) (r z f i : ℕ) : Type 0 where
 -- ---- a reserve's terms: multiplier and minutes from `pair` on, share and requirement the n-th of their three
 abbrev pub termsAt : List ℕ → ℕ → ℕ → ReserveTerms
 termsAt b pair n =
-    record { multiplier = u16At b pair; minutes = u16At b (pair + 2); share = u16At b (24 + n * 2); requirement = power (u32At b (30 + n * 4)) }
+    record {
+      multiplier = thousandths (u16At b pair);
+      minutes = minutes (u16At b (pair + 2));
+      share = thousandths (u16At b (24 + n * 2));
+      requirement = power (u32At b (30 + n * 4));
+    }
 
 -- step j of the curve of number k
 abbrev pub curveStepAt : List ℕ → ℕ → ℕ → Step

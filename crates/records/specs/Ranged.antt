@@ -69,11 +69,11 @@ pub record Ranged (r : Resource) : Type 0 where
   pub offers : RangedOffers (r .offers)
 
 pub record RangedTerms (t : ReserveTerms) : Type 0 where
-  pub multiplier-from : 1 ≤ t .multiplier
-  pub multiplier-to : t .multiplier ≤ 5000
-  pub minutes-from : 1 ≤ t .minutes
-  pub minutes-to : t .minutes ≤ 60
-  pub share-to : t .share ≤ 1000
+  pub multiplier-from : 1 ≤ t .multiplier .0
+  pub multiplier-to : t .multiplier .0 ≤ 5000
+  pub minutes-from : 1 ≤ t .minutes .0
+  pub minutes-to : t .minutes .0 ≤ 60
+  pub share-to : t .share .0 ≤ 1000
   pub requirement : UpTo (t .requirement .0) 8000000
 
 pub record RangedCurve (o : CurveSteps) : Type 0 where

@@ -3,15 +3,17 @@
 ghost use mathlib.Core.Path.{_≡_};
 ghost use Prim.Native.Nat.{_+_, _*_, _<_, _≤_};
 ghost use Rattle.wire.specs.Within.{Within};
-ghost use Rattle.market.specs.Bytes.{u32At, i32At};
+ghost use Rattle.market.specs.Bytes.{u8At, u16At, u32At, i32At};
 ghost use Rattle.market.specs.Case.{Curve, curveNumber, contingencyReserve, regulatingReserve, shortTermReserve};
 ghost use Rattle.market.specs.CaseFile.{resourceAt, resourcePlace, caseOf};
-ghost use Rattle.market.specs.Records.{kw, cents, shiftFactor, power, price, offerStepOf, offerStepsOf, stateOf, outputLimitsOf, rampsOf, startsOf, reserveOffersOf, recordOf, reserveTermsOf, curveStepsOf, zoneRequirementsOf};
+ghost use Rattle.market.specs.Records.{kw, cents, shiftFactor, power, price, perMinute, minutes, thousandths, offerStepOf, offerStepsOf, stateOf, outputLimitsOf, rampsOf, startsOf, reserveOffersOf, recordOf, reserveTermsOf, curveStepsOf, zoneRequirementsOf};
 ghost use Rattle.records.specs.Places.{HeadIn, CurveIn, ZoneIn, ResourceIn, FlowgateIn, FactorIn, termsAt, curveStepAt};
 use market::Cents;
 use market::CurveSteps;
 use market::Flags;
 use market::Kw;
+use market::KwPerMinute;
+use market::Minutes;
 use market::OfferSteps;
 use market::OutputLimits;
 use market::Ramps;
@@ -23,6 +25,7 @@ use market::Starts;
 use market::State;
 use market::Status;
 use market::Step;
+use market::Thousandths;
 use market::ZoneRequirements;
 
 // ---- a figure in its unit
@@ -39,6 +42,35 @@ fn signed_kw_at(b: &[u8], at: usize) -> Kw
     ensures { λ r. ⌜ r ≡ kw (i32At (now (b .entry)) at) ⌝ }
 {
     Kw(wire::i32_at(b, at))
+}
+
+fn per_minute_at(b: &[u8], at: usize) -> KwPerMinute
+    requires { ⌜ Within (now b) at 4 ⌝ }
+    ensures { λ r. ⌜ r ≡ perMinute (u32At (now (b .entry)) at) ⌝ }
+{
+    KwPerMinute(wire::u32_at(b, at) as i64)
+}
+
+fn minutes_at(b: &[u8], at: usize) -> Minutes
+    requires { ⌜ Within (now b) at 2 ⌝ }
+    ensures { λ r. ⌜ r ≡ minutes (u16At (now (b .entry)) at) ⌝ }
+{
+    Minutes(wire::u16_at(b, at))
+}
+
+// Of one byte.
+fn trip_at(b: &[u8], at: usize) -> Minutes
+    requires { ⌜ Within (now b) at 1 ⌝ }
+    ensures { λ r. ⌜ r ≡ minutes (u8At (now (b .entry)) at) ⌝ }
+{
+    Minutes(wire::u8_at(b, at) as u32)
+}
+
+fn thousandths_at(b: &[u8], at: usize) -> Thousandths
+    requires { ⌜ Within (now b) at 2 ⌝ }
+    ensures { λ r. ⌜ r ≡ thousandths (u16At (now (b .entry)) at) ⌝ }
+{
+    Thousandths(wire::u16_at(b, at))
 }
 
 fn cents_at(b: &[u8], at: usize) -> Cents
@@ -65,8 +97,8 @@ fn state_at(b: &[u8], at: usize) -> State
         kind: wire::u8_at(b, at),
         zone: wire::u8_at(b, at + 1),
         breaker: wire::u8_at(b, at + 2),
-        status: Status(wire::u8_at(b, at + 3)),
-        trip: wire::u8_at(b, at + 4),
+        status: Status::masked(wire::u8_at(b, at + 3)),
+        trip: trip_at(b, at + 4),
         flags: Flags::of(wire::u8_at(b, at + 5)),
         output: signed_kw_at(b, at + 6),
     }
@@ -91,9 +123,9 @@ fn ramps_at(b: &[u8], at: usize) -> Ramps
     ensures { λ r. ⌜ r ≡ rampsOf (resourceAt (now (b .entry)) at) ⌝ }
 {
     Ramps {
-        up: kw_at(b, at + 34),
-        down: kw_at(b, at + 38),
-        rate: kw_at(b, at + 42),
+        up: per_minute_at(b, at + 34),
+        down: per_minute_at(b, at + 38),
+        rate: per_minute_at(b, at + 42),
     }
 }
 
@@ -226,9 +258,9 @@ fn terms_at(b: &[u8], pair: usize, n: usize) -> ReserveTerms
     ensures { λ r. ⌜ r ≡ termsAt (now (b .entry)) pair n ⌝ }
 {
     ReserveTerms {
-        multiplier: wire::u16_at(b, pair),
-        minutes: wire::u16_at(b, pair + 2),
-        share: wire::u16_at(b, 24 + n * 2),
+        multiplier: thousandths_at(b, pair),
+        minutes: minutes_at(b, pair + 2),
+        share: thousandths_at(b, 24 + n * 2),
         requirement: kw_at(b, 30 + n * 4),
     }
 }

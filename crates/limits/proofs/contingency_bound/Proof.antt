@@ -1,10 +1,8 @@
 -- `limits::contingency_bound` meets its contract: off-line, not eligible, eligible. Assumes nothing.
-use mathlib.Core.Bool.{_||_}
 use borrow.Author.Needs.{needs}
 use Rattle.market.specs.Case.{contingencyReserve}
-use Rattle.market.specs.Bits.{spinningFlag, onLineSupplemental}
 use Rattle.market.specs.UpperBounds.{serviceBound}
-use Rattle.limits.proofs.Fields.{bits-are, told-false, told-true}
+use Rattle.limits.proofs.Fields.{carries-is, told-false, told-true}
 use Rattle.limits.specs.OffLine.{offLineContingency}
 use Rattle.limits.proofs.contingency_bound.Statement.{statement}
 use Rattle.limits.proofs.contingency_bound.Tie as tie
@@ -19,14 +17,14 @@ returns-2 : tie.Need-returns-2
 unfolding serviceBound
 returns-2 c = λ k s o m t e. rw (
   told-true o (c .before .before .before .if1 .left),
-  told-false (bits-are s e (λ f b. spinningFlag f || onLineSupplemental b) (c .before .carries-contingency .ensures)) (c .if2 .taken),
+  told-false (carries-is s e (c .before .carries-contingency .ensures)) (c .if2 .taken),
 )
 
 returns-3 : tie.Need-returns-3
 unfolding serviceBound
 returns-3 c = λ k s o m t e. rw (
   told-true o (c .before .before .before .before .if1 .left),
-  told-true (bits-are s e (λ f b. spinningFlag f || onLineSupplemental b) (c .before .before .carries-contingency .ensures)) (c .before .if2 .left),
+  told-true (carries-is s e (c .before .before .carries-contingency .ensures)) (c .before .if2 .left),
 )
     (c .on-line-bound .ensures k contingencyReserve s m t e)
 

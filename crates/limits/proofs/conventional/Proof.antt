@@ -29,10 +29,10 @@ returns-3 c = rw (
 returns-4 : tie.Need-returns-4
 unfolding conventionalOnLine
 returns-4 c = rw (
-  eq-eqb _ _ (c .before .before .before .before .before .if1 .left),
-  ← (c .before .before .before .before .at-least-500 .ensures),
-  not-false (c .before .before .before .before .at-least-500 .result) (c .before .before .before .if2 .left),
-  eq-eqb _ _ (c .before .if3 .left),
+  eq-eqb _ _ (c .before .before .before .before .before .before .if1 .left),
+  ← (c .before .before .before .before .before .at-least-500 .ensures),
+  not-false (c .before .before .before .before .before .at-least-500 .result) (c .before .before .before .before .if2 .left),
+  eq-eqb _ _ (c .before .before .if3 .left),
 )
 
 pub conventional-spec : {M : Type 1} → statement M

@@ -10,4 +10,4 @@ returns : tie.Need-returns
 returns c = λ k p t. c .portion .ensures (k .requirement p) (requirement-is k p t) ∙ ap power (share-is k p t)
 
 pub share-bound-spec : {M : Type 1} → statement M
-share-bound-spec = tie.close (tie.spec (λ c. search needs) (λ c κs. search needs) returns)
+share-bound-spec = tie.close (tie.spec (λ c κs. search needs) returns)

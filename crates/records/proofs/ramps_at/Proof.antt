@@ -7,7 +7,7 @@ use Rattle.records.proofs.ramps_at.Tie as tie
 
 returns : tie.Need-returns
 unfolding rampsOf resourceAt
-returns c = λ i. record { up = (c .before .before .kw-at .ensures) i; down = (c .before .kw-at2 .ensures) i; rate = (c .kw-at3 .ensures) i }
+returns c = λ i. record { up = (c .before .before .per-minute-at .ensures) i; down = (c .before .per-minute-at2 .ensures) i; rate = (c .per-minute-at3 .ensures) i }
 
 pub ramps-at-spec : {M : Type 1} → statement M
 ramps-at-spec =

@@ -1,6 +1,8 @@
 -- `records::state_at` meets its contract: the record field by field, each from what its reader ensures. Assumes nothing.
-use mathlib.Core.Path.{_∙_}
+use mathlib.Core.Path.{ap, _∙_}
+use Prim.Native.Nat.{ℕ}
 use borrow.Author.Needs.{needs}
+use Rattle.market.specs.Bits.{statusBits}
 use Rattle.market.specs.CaseFile.{resourceAt}
 use Rattle.market.specs.Records.{stateOf}
 use Rattle.records.proofs.state_at.Statement.{statement}
@@ -10,12 +12,12 @@ returns : tie.Need-returns
 unfolding stateOf resourceAt
 returns c = λ i.
     record {
-      kind = (c .before .before .before .before .before .before .before .u8-at .ensures) i;
-      zone = (c .before .before .before .before .before .before .u8-at2 .ensures) i;
-      breaker = (c .before .before .before .before .before .u8-at3 .ensures) i;
-      status = record { 0 = (c .before .before .before .before .u8-at4 .ensures) i };
-      trip = (c .before .before .before .u8-at5 .ensures) i;
-      flags = record { 0 = (c .before .of .ensures ∙ c .before .before .u8-at6 .ensures) i };
+      kind = (c .before .before .before .before .before .before .before .before .u8-at .ensures) i;
+      zone = (c .before .before .before .before .before .before .before .u8-at2 .ensures) i;
+      breaker = (c .before .before .before .before .before .before .u8-at3 .ensures) i;
+      status = record { 0 = (c .before .before .before .before .masked .ensures ∙ ap (λ (n : ℕ). statusBits n) (c .before .before .before .before .before .u8-at4 .ensures)) i };
+      trip = (c .before .before .before .trip-at .ensures) i;
+      flags = record { 0 = (c .before .of .ensures ∙ c .before .before .u8-at5 .ensures) i };
       output = (c .signed-kw-at .ensures) i;
     }
 
@@ -29,6 +31,7 @@ state-at-spec =
     (λ c. search needs)
     (λ c κs. search needs)
     (λ c. search needs)
+    (λ c κs. search needs)
     (λ c κs. search needs)
     (λ c. search needs)
     (λ c κs. search needs)

@@ -6,9 +6,9 @@ use Rattle.records.proofs.terms_at.Tie as tie
 returns : tie.Need-returns
 returns c = λ i.
     record {
-      multiplier = (c .before .before .before .u16-at .ensures .0) i;
-      minutes = (c .before .before .u16-at2 .ensures .0) i;
-      share = (c .before .u16-at3 .ensures .0) i;
+      multiplier = (c .before .before .before .thousandths-at .ensures) i;
+      minutes = (c .before .before .minutes-at .ensures) i;
+      share = (c .before .thousandths-at2 .ensures) i;
       requirement = (c .kw-at .ensures) i;
     }
 
