@@ -163,7 +163,7 @@ fn common_terms(b: &[u8], q: &[u8], r: usize, z: usize, f: usize) -> Grains
     ensures { λ g. ⌜ Figure g (rowTerm (now (b .entry)) (now (q .entry)) Balance +ℤ (sumOf (zoneTerms (now (b .entry)) (now (q .entry))) (upto z) +ℤ sumOf (flowgateTerm (now (b .entry)) (now (q .entry))) (upto f))) mostCommonTerms ⌝ }
 {
     let price = entries::balance_price(q, r, z, f);
-    let demand = records::demand(b);
+    let demand = readers::demand(b, r, z, f);
     let balance = worth(price, demand);
     let zones = zones_sum(b, q, r, z, f);
     let flowgates = flowgates_sum(b, q, r, z, f);
@@ -210,11 +210,18 @@ fn steps_least(prices: Nets, on: bool, steps: OfferSteps) -> Grains
 // ---- its reserves
 
 // Their upper bounds, `on` being whether it is on-line.
-pub fn reserve_bounds(b: &[u8], on: bool, resource: Resource) -> ReserveBounds
+pub fn reserve_bounds(
+    b: &[u8],
+    r: usize,
+    z: usize,
+    f: usize,
+    on: bool,
+    resource: Resource,
+) -> ReserveBounds
     requires { ⌜ (HeadIn (now b) × Valid (now b)) × Ranged resource ⌝ }
     ensures { λ u. ⌜ ((s : Figures) → on ≡ onLine s → resource ≡ recordOf s → u ≡ reserveBoundsOf (caseOf (now (b .entry))) s) ⌝ }
 {
-    let terms = limits::terms_in(b);
+    let terms = readers::terms_in(b, r, z, f);
     limits::reserve_bounds(terms, on, resource)
 }
 
@@ -246,7 +253,7 @@ fn least_terms(
 {
     let on = limits::on_line(resource);
     let prices = nets::nets_for(b, q, r, z, f, i, on, resource);
-    let uppers = reserve_bounds(b, on, resource);
+    let uppers = reserve_bounds(b, r, z, f, on, resource);
     let steps = steps_least(prices, on, readers::offer_steps_at(b, r, z, f, i));
     let reserves = reserves_least(prices, uppers);
     plus(steps, reserves)
@@ -311,10 +318,13 @@ fn curves_least(b: &[u8], q: &[u8], r: usize, z: usize, f: usize) -> Grains
     ensures { λ g. ⌜ Figure g (sumOf (pricedTerm (now (b .entry)) (now (q .entry))) (across curvePriced curves)) (16 * mostCurveStep) ⌝ }
 {
     let prices = entries::market_prices(q, r, z, f);
-    let operating = curve_least(prices.operating, records::curve_at(b, 0));
-    let both = curve_least(prices.regulating_plus_spinning, records::curve_at(b, 1));
-    let regulating = curve_least(prices.regulating, records::curve_at(b, 2));
-    let short_term = curve_least(prices.short_term, records::curve_at(b, 3));
+    let operating = curve_least(prices.operating, readers::curve_at(b, r, z, f, 0));
+    let both = curve_least(
+        prices.regulating_plus_spinning,
+        readers::curve_at(b, r, z, f, 1),
+    );
+    let regulating = curve_least(prices.regulating, readers::curve_at(b, r, z, f, 2));
+    let short_term = curve_least(prices.short_term, readers::curve_at(b, r, z, f, 3));
     let last = plus(regulating, short_term);
     let rest = plus(both, last);
     plus(operating, rest)

@@ -1,31 +1,20 @@
 -- Records of a valid case and a certificate: that their bounds can be computed, and comparisons of them by figures.
-use mathlib.Core.Path.{_≡_, refl, _∙_}
+use mathlib.Core.Path.{_≡_, _∙_}
 use mathlib.Core.Bool.{Bool}
 use mathlib.Core.List.{List}
-use Prim.Native.Nat.{ℕ, zero, suc, _<_}
+use Prim.Native.Nat.{ℕ, _<_}
 use native.Mathlib.Omega.{arith}
 use lib.Signed.{leZ}
 use Rattle.market.specs.declared.Kw.{Kw}
 use Rattle.market.specs.declared.OfferSteps.{OfferSteps}
-use Rattle.market.specs.declared.CurveSteps.{CurveSteps}
 use Rattle.market.specs.declared.Resource.{Resource}
-use Rattle.market.specs.Case.{Curve, operating, regulatingPlusSpinning, regulating, shortTerm, curveNumber}
 use Rattle.market.specs.CaseFile.{caseOf, resourceAt, resourcePlace}
-use Rattle.market.specs.Records.{recordOf, offerStepsOf, curveStepsOf}
+use Rattle.market.specs.Records.{recordOf, offerStepsOf}
 use Rattle.market.specs.Outcome.{Valid}
-use Rattle.market.proofs.Ranges.{valid-ranges}
-use Rattle.records.specs.Ranged.{Ranged, RangedSteps, RangedCurve}
+use Rattle.records.specs.Ranged.{Ranged, RangedSteps}
 use Rattle.records.proofs.Places.{resources-is, record-is, steps-are}
-use Rattle.records.proofs.Ranged.{curve-ranged, valid-resource, valid-steps}
+use Rattle.records.proofs.Ranged.{valid-resource, valid-steps}
 use Rattle.certificates.specs.Filing.{Filing}
-
--- ---- curves by their number
-pub curve-at-ranged : (b : List ℕ) → Valid b → (k : ℕ) → k < 4 → (o : CurveSteps) → ((c : Curve) → curveNumber c ≡ k → o ≡ curveStepsOf (caseOf b) c) → RangedCurve o
-curve-at-ranged b v zero h o e = rw (e operating refl) (curve-ranged (valid-ranges b v) operating)
-curve-at-ranged b v (suc zero) h o e = rw (e regulatingPlusSpinning refl) (curve-ranged (valid-ranges b v) regulatingPlusSpinning)
-curve-at-ranged b v (suc (suc zero)) h o e = rw (e regulating refl) (curve-ranged (valid-ranges b v) regulating)
-curve-at-ranged b v (suc (suc (suc zero))) h o e = rw (e shortTerm refl) (curve-ranged (valid-ranges b v) shortTerm)
-curve-at-ranged b v (suc (suc (suc (suc k)))) h o e = absurd (omega arith)
 
 -- ---- resources
 module _ {b q : List ℕ} {r z f : ℕ} (h : Filing b q r z f) where

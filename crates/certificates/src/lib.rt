@@ -1,52 +1,52 @@
 // The certificate check as far as the upper bounds: grounds 1 to 13 of a case and a certificate, each tested only where no
 // earlier one holds anywhere in the files (01, 'How each operation refuses').
 use cases::Stage;
-use limits::Terms;
 use market::Amounts;
 use market::CurveAmounts;
 use market::Kw;
 use market::OfferSteps;
 use market::Refusal;
 use market::Resource;
+use market::Terms;
 ghost use mathlib.Core.Path.{_≡_};
 ghost use mathlib.Core.List.{map};
 ghost use Prim.Native.Nat.{ℕ, _+_, _<_, _≤_};
 ghost use lib.Dec.{leb};
 ghost use Rattle.arith.specs.Sums.{upto, across};
 ghost use Rattle.market.specs.declared.Refusal.the-variants.{AboveBound};
-ghost use Rattle.market.specs.Case.{Case, Curve, curves, curveNumber};
+ghost use Rattle.market.specs.Case.{Case, curves, curveNumbered};
 ghost use Rattle.market.specs.CaseFile.{caseOf};
 ghost use Rattle.market.specs.UpperBounds.{Cleared, Provided, services, Schedule, upperBound};
 ghost use Rattle.market.specs.Certificate.{certificateOf};
-ghost use Rattle.market.specs.Records.{power, countsIn, recordOf, offerStepsOf, amountsOf, clearedOf};
+ghost use Rattle.market.specs.Records.{power, countsIn, recordOf, offerStepsOf, termsOf, amountsOf, clearedOf};
 ghost use Rattle.market.specs.Refusals.{firstOf, firstFailing, foundAt};
 ghost use Rattle.market.specs.Outcome.{Valid, withinBound};
 ghost use Rattle.cases.specs.Stages.{stageOf};
 ghost use Rattle.records.specs.Places.{HeadIn, CurveIn};
 ghost use Rattle.records.specs.Ranged.{Ranged, RangedSteps};
-ghost use Rattle.limits.specs.Together.{termsOf, TermsRanged};
+ghost use Rattle.limits.specs.Together.{TermsRanged};
 ghost use Rattle.certificates.specs.Grounds13.{priceGround, boundGround, groundsTo11, groundsTo13};
 ghost use Rattle.certificates.specs.Filing.{Filing, Filed, Advanced};
 
 // ---- upper bounds
 
 // Of the cleared quantity of the curve of number k.
-fn curve_bound_at(b: &[u8], k: usize) -> Kw
+fn curve_bound_at(b: &[u8], r: usize, z: usize, f: usize, k: usize) -> Kw
     requires { ⌜ Valid (now b) × CurveIn (now b) k ⌝ }
-    ensures { λ m. ⌜ ((c : Curve) → curveNumber c ≡ k → m ≡ power (upperBound (caseOf (now (b .entry))) (Cleared c))) ⌝ }
+    ensures { λ m. ⌜ m ≡ power (upperBound (caseOf (now (b .entry))) (Cleared (curveNumbered k))) ⌝ }
 {
-    limits::curve_bound(records::curve_at(b, k))
+    limits::curve_bound(readers::curve_at(b, r, z, f, k))
 }
 
-fn curve_bounds(b: &[u8]) -> CurveAmounts
+fn curve_bounds(b: &[u8], r: usize, z: usize, f: usize) -> CurveAmounts
     requires { ⌜ Valid (now b) × HeadIn (now b) ⌝ }
     ensures { λ m. ⌜ m ≡ clearedOf (upperBound (caseOf (now (b .entry)))) ⌝ }
 {
     CurveAmounts {
-        operating: curve_bound_at(b, 0),
-        regulating_plus_spinning: curve_bound_at(b, 1),
-        regulating: curve_bound_at(b, 2),
-        short_term: curve_bound_at(b, 3),
+        operating: curve_bound_at(b, r, z, f, 0),
+        regulating_plus_spinning: curve_bound_at(b, r, z, f, 1),
+        regulating: curve_bound_at(b, r, z, f, 2),
+        short_term: curve_bound_at(b, r, z, f, 3),
     }
 }
 
@@ -119,7 +119,7 @@ fn first_provided_above(b: &[u8], q: &[u8], r: usize, z: usize, f: usize) -> u32
     requires { ⌜ Filing (now b) (now q) r z f ⌝ }
     ensures { λ n. ⌜ foundAt AboveBound n ≡ firstFailing (withinBound (caseOf (now (b .entry))) (certificateOf (now (q .entry)))) AboveBound 5 (across (λ i. map (Provided i) services) (upto r)) ⌝ }
 {
-    let terms = limits::terms_in(b);
+    let terms = readers::terms_in(b, r, z, f);
     let mut place: u32 = 5;
     let mut i: usize = 0;
     while i < r {
@@ -144,7 +144,7 @@ fn first_above(b: &[u8], q: &[u8], r: usize, z: usize, f: usize) -> u32
     ensures { λ n. ⌜ foundAt AboveBound n ≡ boundGround (caseOf (now (b .entry))) (certificateOf (now (q .entry))) ⌝ }
 {
     let given = entries::cleared(q, r, z, f);
-    let most = curve_bounds(b);
+    let most = curve_bounds(b, r, z, f);
     let found = cleared_above(given, most);
     if found > 0 {
         return found;

@@ -7,7 +7,7 @@ ghost use Prim.Native.Nat.{_+_, _*_, _<_, _≤_};
 ghost use lib.IntN.{natAbs};
 ghost use lib.ListN.{length, drop};
 ghost use Rattle.arith.specs.Sums.{upto, across};
-ghost use Rattle.market.specs.Case.{Curve, curves, curveNumber};
+ghost use Rattle.market.specs.Case.{curves, curveNumbered};
 ghost use Rattle.market.specs.CaseFile.{caseOf};
 ghost use Rattle.market.specs.Certificate.{certificateOf};
 ghost use Rattle.market.specs.Cost.{curvePriced, priced};
@@ -105,7 +105,7 @@ fn write_resource(b: &[u8], q: &[u8], r: usize, z: usize, f: usize, i: usize, ou
     let amounts = entries::amounts_at(q, r, z, f, i);
     let on = limits::on_line(resource);
     let prices = nets::nets_for(b, q, r, z, f, i, on, resource);
-    let uppers = bounds::reserve_bounds(b, on, resource);
+    let uppers = bounds::reserve_bounds(b, r, z, f, on, resource);
     let steps = readers::offer_steps_at(b, r, z, f, i);
     write_steps(prices, on, steps, amounts.energy, out);
     write_reserves(prices, amounts, uppers, &mut out[10..]);
@@ -162,11 +162,19 @@ struct ClearedCurve {
 }
 
 // The curve of number k, with these.
-fn cleared_curve(b: &[u8], k: usize, price: Millicents, cleared: Kw) -> ClearedCurve
+fn cleared_curve(
+    b: &[u8],
+    r: usize,
+    z: usize,
+    f: usize,
+    k: usize,
+    price: Millicents,
+    cleared: Kw,
+) -> ClearedCurve
     requires { ⌜ CurveIn (now b) k ⌝ }
-    ensures { λ v. ⌜ ((c : Curve) → curveNumber c ≡ k → v ≡ clearedCurve price (curveStepsOf (caseOf (now (b .entry))) c) cleared) ⌝ }
+    ensures { λ v. ⌜ v ≡ clearedCurve price (curveStepsOf (caseOf (now (b .entry))) (curveNumbered k)) cleared ⌝ }
 {
-    let steps = records::curve_at(b, k);
+    let steps = readers::curve_at(b, r, z, f, k);
     ClearedCurve {
         price: price,
         steps: steps,
@@ -190,15 +198,18 @@ fn write_curves(b: &[u8], q: &[u8], r: usize, z: usize, f: usize, out: &mut [i64
 {
     let prices = entries::market_prices(q, r, z, f);
     let cleared = entries::cleared(q, r, z, f);
-    let operating = cleared_curve(b, 0, prices.operating, cleared.operating);
+    let operating = cleared_curve(b, r, z, f, 0, prices.operating, cleared.operating);
     let both = cleared_curve(
         b,
+        r,
+        z,
+        f,
         1,
         prices.regulating_plus_spinning,
         cleared.regulating_plus_spinning,
     );
-    let regulating = cleared_curve(b, 2, prices.regulating, cleared.regulating);
-    let short_term = cleared_curve(b, 3, prices.short_term, cleared.short_term);
+    let regulating = cleared_curve(b, r, z, f, 2, prices.regulating, cleared.regulating);
+    let short_term = cleared_curve(b, r, z, f, 3, prices.short_term, cleared.short_term);
     write_pair(operating, both, out);
     write_pair(regulating, short_term, &mut out[8..]);
 }

@@ -157,10 +157,13 @@ fn curves_value(b: &[u8], q: &[u8], r: usize, z: usize, f: usize) -> ThousandGra
     ensures { λ v. ⌜ v ≡ thousands (sumOf (curveValue (caseOf (now (b .entry))) (certificateOf (now (q .entry)) .amount)) curves) ⌝ }
 {
     let cleared = entries::cleared(q, r, z, f);
-    let operating = curve_value(records::curve_at(b, 0), cleared.operating);
-    let spinning = curve_value(records::curve_at(b, 1), cleared.regulating_plus_spinning);
-    let regulating = curve_value(records::curve_at(b, 2), cleared.regulating);
-    let short_term = curve_value(records::curve_at(b, 3), cleared.short_term);
+    let operating = curve_value(readers::curve_at(b, r, z, f, 0), cleared.operating);
+    let spinning = curve_value(
+        readers::curve_at(b, r, z, f, 1),
+        cleared.regulating_plus_spinning,
+    );
+    let regulating = curve_value(readers::curve_at(b, r, z, f, 2), cleared.regulating);
+    let short_term = curve_value(readers::curve_at(b, r, z, f, 3), cleared.short_term);
     sum(operating, sum(spinning, sum(regulating, short_term)))
 }
 

@@ -8,11 +8,11 @@ use Rattle.market.specs.Case.{Case, Resource as Figures, Reserve, regulatingRes
 use Rattle.market.specs.CaseFile.{caseOf}
 use Rattle.market.specs.Outcome.{Valid}
 use Rattle.market.specs.UpperBounds.{RAMP, SHARE}
-use Rattle.market.specs.Records.{power, reserveTermsOf}
+use Rattle.market.specs.Records.{power, reserveTermsOf, termsOf}
 use Rattle.market.specs.declared.ReserveTerms.{ReserveTerms}
+use Rattle.market.specs.declared.Terms.{Terms}
 use Rattle.records.proofs.Ranged.{valid-terms}
-use Rattle.limits.specs.declared.Terms.{Terms}
-use Rattle.limits.specs.Together.{termsOf, TermsRanged}
+use Rattle.limits.specs.Together.{TermsRanged}
 
 module _ {t : ReserveTerms} (c : Case) (p : Reserve) (e : t ≡ reserveTermsOf c p) where
   pub requirement-is : t .requirement ≡ power (c .requirement p)

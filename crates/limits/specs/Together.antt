@@ -1,24 +1,16 @@
--- Figures together, as records by value: a resource's four limits, the terms of the three reserves, and the upper bounds of a
--- resource's four (01, 'Before the rows').
-use Rattle.market.specs.Case.{Case, Resource, regulatingReserve, contingencyReserve, shortTermReserve}
+-- Figures together, as records by value: a resource's four limits, and the upper bounds of its four reserves, which ask that the
+-- terms of the three are in range (01, 'Before the rows').
+use Rattle.market.specs.Case.{Case, Resource}
 use Rattle.market.specs.Limits.{MAX, MIN, HI, LO}
 use Rattle.market.specs.UpperBounds.{serviceBound, regulation, contingency, onLineShortTerm, offLineShortTerm}
-use Rattle.market.specs.Records.{power, reserveTermsOf}
+use Rattle.market.specs.Records.{power}
+use Rattle.market.specs.declared.Terms.{Terms}
 use Rattle.records.specs.Ranged.{RangedTerms}
 use Rattle.limits.specs.declared.ResourceLimits.{ResourceLimits}
 use Rattle.limits.specs.declared.ReserveBounds.{ReserveBounds}
-use Rattle.limits.specs.declared.Terms.{Terms}
 
 unfoldable pub limitsOf : Resource → ResourceLimits
 limitsOf r = record { max = power (MAX r); min = power (MIN r); high = power (HI r); low = power (LO r) }
-
-unfoldable pub termsOf : Case → Terms
-termsOf c =
-    record {
-      regulating = reserveTermsOf c regulatingReserve;
-      contingency = reserveTermsOf c contingencyReserve;
-      «short_term» = reserveTermsOf c shortTermReserve;
-    }
 
 pub record TermsRanged (t : Terms) : Type 0 where
   pub regulating : RangedTerms (t .regulating)

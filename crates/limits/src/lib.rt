@@ -11,12 +11,10 @@ ghost use Rattle.market.specs.Case.{Case, Resource as Figures, Curve, Reserve, 
 ghost use Rattle.market.specs.Availability.{onLine};
 ghost use Rattle.market.specs.Limits.{MAX, MIN, HI, LO, rampFloor};
 ghost use Rattle.market.specs.UpperBounds.{RAMP, SHARE, onLineBound, serviceBound, upperBound, energy, regulation, contingency, onLineShortTerm, offLineShortTerm, Cleared};
-ghost use Rattle.market.specs.CaseFile.{caseOf};
-ghost use Rattle.market.specs.Records.{power, perMinute, stateOf, recordOf, reserveTermsOf, offerStepsOf, curveStepsOf};
-ghost use Rattle.records.specs.Places.{HeadIn};
+ghost use Rattle.market.specs.Records.{power, perMinute, stateOf, recordOf, reserveTermsOf, termsOf, offerStepsOf, curveStepsOf};
 ghost use Rattle.records.specs.Ranged.{UpTo, Ranged, RangedSteps, RangedTerms, RangedCurve};
 ghost use Rattle.limits.specs.OffLine.{offLineContingency};
-ghost use Rattle.limits.specs.Together.{limitsOf, termsOf, TermsRanged, reserveBoundsOf};
+ghost use Rattle.limits.specs.Together.{limitsOf, TermsRanged, reserveBoundsOf};
 ghost use Rattle.limits.specs.OnLine.{atLeast500, conventionalOnLine, intermittentOnLine, externalOnLine};
 use market::CurveSteps;
 use market::Kw;
@@ -26,6 +24,7 @@ use market::OfferSteps;
 use market::ReserveTerms;
 use market::Resource;
 use market::State;
+use market::Terms;
 use market::Thousandths;
 
 // ---- amounts: only these functions look into a kilowatt figure
@@ -297,24 +296,6 @@ pub fn limits_of(r: Resource) -> ResourceLimits
 }
 
 // ---- what bounds a reserve
-
-// What the case says of each reserve.
-pub struct Terms {
-    pub regulating: ReserveTerms,
-    pub contingency: ReserveTerms,
-    pub short_term: ReserveTerms,
-}
-
-pub fn terms_in(b: &[u8]) -> Terms
-    requires { ⌜ HeadIn (now b) ⌝ }
-    ensures { λ t. ⌜ t ≡ termsOf (caseOf (now (b .entry))) ⌝ }
-{
-    Terms {
-        regulating: records::regulating_terms(b),
-        contingency: records::contingency_terms(b),
-        short_term: records::short_term_terms(b),
-    }
-}
 
 // RAMP
 fn ramp_bound(terms: ReserveTerms, r: Resource) -> Kw

@@ -17,6 +17,13 @@ curveNumber regulatingPlusSpinning = 1
 curveNumber regulating = 2
 curveNumber shortTerm = 3
 
+-- the curve of a number, which is at most 3
+abbrev pub curveNumbered : ℕ → Curve
+curveNumbered zero = operating
+curveNumbered (suc zero) = regulatingPlusSpinning
+curveNumbered (suc (suc zero)) = regulating
+curveNumbered (suc (suc (suc n))) = shortTerm
+
 -- the three reserves that have a multiplier, minutes, a largest share and a market requirement
 pub data Reserve : Type 0 where
   regulatingReserve contingencyReserve shortTermReserve : Reserve

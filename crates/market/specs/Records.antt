@@ -21,6 +21,7 @@ use Rattle.market.specs.declared.Ramps.{Ramps}
 use Rattle.market.specs.declared.Starts.{Starts}
 use Rattle.market.specs.declared.ReserveOffers.{ReserveOffers}
 use Rattle.market.specs.declared.ReserveTerms.{ReserveTerms}
+use Rattle.market.specs.declared.Terms.{Terms}
 use Rattle.market.specs.declared.ZoneRequirements.{ZoneRequirements}
 use Rattle.market.specs.declared.Amounts.{Amounts}
 use Rattle.market.specs.declared.LimitPrices.{LimitPrices}
@@ -28,7 +29,7 @@ use Rattle.market.specs.declared.CurveAmounts.{CurveAmounts}
 use Rattle.market.specs.declared.ReservePrices.{ReservePrices}
 use Rattle.market.specs.declared.Resource as D
 use Rattle.market.specs.Bits.{statusBits}
-use Rattle.market.specs.Case.{Case, Resource, Curve, Reserve, operating, regulatingPlusSpinning, regulating, shortTerm}
+use Rattle.market.specs.Case.{Case, Resource, Curve, Reserve, regulatingReserve, contingencyReserve, shortTermReserve, operating, regulatingPlusSpinning, regulating, shortTerm}
 use Rattle.market.specs.UpperBounds.{Cleared, Provided, energy, regulation, contingency, onLineShortTerm, offLineShortTerm, Schedule}
 use Rattle.market.specs.Rows.{Row, Limited, maxWithReserve, maxWithShortTerm, minimum, high, low}
 use Rattle.market.specs.Certificate.{Prices}
@@ -129,6 +130,14 @@ recordOf r =
 unfoldable pub reserveTermsOf : Case → Reserve → ReserveTerms
 reserveTermsOf c p =
     record { multiplier = thousandths (c .multiplier p); minutes = minutes (c .minutes p); share = thousandths (c .share p); requirement = power (c .requirement p) }
+
+unfoldable pub termsOf : Case → Terms
+termsOf c =
+    record {
+      regulating = reserveTermsOf c regulatingReserve;
+      contingency = reserveTermsOf c contingencyReserve;
+      «short_term» = reserveTermsOf c shortTermReserve;
+    }
 
 unfoldable pub curveStepOf : Case → Curve → ℕ → Step
 curveStepOf c k j = record { width = power (c .curveWidth k j); price = price (c .curvePrice k j) }

@@ -246,6 +246,13 @@ pub struct ReserveTerms {
     pub requirement: Kw,
 }
 
+// Of all three reserves.
+pub struct Terms {
+    pub regulating: ReserveTerms,
+    pub contingency: ReserveTerms,
+    pub short_term: ReserveTerms,
+}
+
 // A zone's requirements, in the order of the demand curves.
 pub struct ZoneRequirements {
     pub of: [Kw; 4],

@@ -2,14 +2,17 @@
 // Each function over it takes it apart and calls the function of `records` that does the work; beside each stands one on plain
 // parameters, which makes the reader and calls it. Each asks that the bytes it reads are there (`records`, specs/Places.antt).
 ghost use mathlib.Core.Path.{_≡_};
+ghost use Rattle.market.specs.Case.{curveNumbered};
 ghost use Rattle.market.specs.CaseFile.{resourceAt, resourcePlace, caseOf};
-ghost use Rattle.market.specs.Records.{kw, shiftFactor, recordOf, offerStepsOf, zoneRequirementsOf};
-ghost use Rattle.records.specs.Places.{ZoneIn, ResourceIn, FlowgateIn, FactorIn};
+ghost use Rattle.market.specs.Records.{kw, shiftFactor, power, recordOf, offerStepsOf, termsOf, curveStepsOf, zoneRequirementsOf};
+ghost use Rattle.records.specs.Places.{HeadIn, CurveIn, ZoneIn, ResourceIn, FlowgateIn, FactorIn};
 ghost use Rattle.readers.specs.Reader.{readerOf};
+use market::CurveSteps;
 use market::Kw;
 use market::OfferSteps;
 use market::Resource;
 use market::ShiftFactor;
+use market::Terms;
 use market::ZoneRequirements;
 
 pub struct CaseReader<'a> {
@@ -28,6 +31,51 @@ pub fn new<'a>(bytes: &'a [u8], resources: usize, zones: usize, flowgates: usize
         zones,
         flowgates,
     }
+}
+
+// ---- the head of a case: demand, reserve terms, demand curves
+
+pub fn demand_of<'a>(r: CaseReader<'a>) -> Kw
+    requires { ⌜ HeadIn (now (r .bytes)) ⌝ }
+    ensures { λ q. ⌜ q ≡ power (caseOf (now (r .entry .bytes)) .demand) ⌝ }
+{
+    records::demand(r.bytes)
+}
+
+pub fn demand(b: &[u8], resources: usize, zones: usize, flowgates: usize) -> Kw
+    requires { ⌜ HeadIn (now b) ⌝ }
+    ensures { λ r. ⌜ r ≡ power (caseOf (now (b .entry)) .demand) ⌝ }
+{
+    demand_of(new(b, resources, zones, flowgates))
+}
+
+pub fn terms_of<'a>(r: CaseReader<'a>) -> Terms
+    requires { ⌜ HeadIn (now (r .bytes)) ⌝ }
+    ensures { λ q. ⌜ q ≡ termsOf (caseOf (now (r .entry .bytes))) ⌝ }
+{
+    records::terms(r.bytes)
+}
+
+pub fn terms_in(b: &[u8], resources: usize, zones: usize, flowgates: usize) -> Terms
+    requires { ⌜ HeadIn (now b) ⌝ }
+    ensures { λ r. ⌜ r ≡ termsOf (caseOf (now (b .entry))) ⌝ }
+{
+    terms_of(new(b, resources, zones, flowgates))
+}
+
+// The curve of number k.
+pub fn curve_of<'a>(r: CaseReader<'a>, k: usize) -> CurveSteps
+    requires { ⌜ CurveIn (now (r .bytes)) k ⌝ }
+    ensures { λ q. ⌜ q ≡ curveStepsOf (caseOf (now (r .entry .bytes))) (curveNumbered k) ⌝ }
+{
+    records::curve_at(r.bytes, k)
+}
+
+pub fn curve_at(b: &[u8], resources: usize, zones: usize, flowgates: usize, k: usize) -> CurveSteps
+    requires { ⌜ CurveIn (now b) k ⌝ }
+    ensures { λ r. ⌜ r ≡ curveStepsOf (caseOf (now (b .entry))) (curveNumbered k) ⌝ }
+{
+    curve_of(new(b, resources, zones, flowgates), k)
 }
 
 // ---- zones, counted from 0
@@ -87,21 +135,6 @@ pub fn offer_steps_at(
     ensures { λ r. ⌜ r ≡ offerStepsOf (resourceAt (now (b .entry)) (resourcePlace zones i)) ⌝ }
 {
     offer_steps_of(new(b, resources, zones, flowgates), i)
-}
-
-// The zone of resource i alone, counted from 1.
-pub fn resource_zone_of<'a>(r: CaseReader<'a>, i: usize) -> u8
-    requires { ⌜ ResourceIn (now (r .bytes)) (r .zones) i ⌝ }
-    ensures { λ v. ⌜ v ≡ resourceAt (now (r .entry .bytes)) (resourcePlace (r .entry .zones) i) .zone ⌝ }
-{
-    records::resource_zone(r.bytes, r.zones, i)
-}
-
-pub fn resource_zone(b: &[u8], resources: usize, zones: usize, flowgates: usize, i: usize) -> u8
-    requires { ⌜ ResourceIn (now b) zones i ⌝ }
-    ensures { λ v. ⌜ v ≡ resourceAt (now (b .entry)) (resourcePlace zones i) .zone ⌝ }
-{
-    resource_zone_of(new(b, resources, zones, flowgates), i)
 }
 
 // ---- flowgates, counted from 0

@@ -4,9 +4,9 @@ ghost use mathlib.Core.Path.{_≡_};
 ghost use Prim.Native.Nat.{_+_, _*_, _<_, _≤_};
 ghost use Rattle.wire.specs.Within.{Within};
 ghost use Rattle.market.specs.Bytes.{u8At, u16At, u32At, i32At};
-ghost use Rattle.market.specs.Case.{Curve, curveNumber, contingencyReserve, regulatingReserve, shortTermReserve};
+ghost use Rattle.market.specs.Case.{curveNumbered, contingencyReserve, regulatingReserve, shortTermReserve};
 ghost use Rattle.market.specs.CaseFile.{resourceAt, resourcePlace, caseOf};
-ghost use Rattle.market.specs.Records.{kw, cents, shiftFactor, power, price, perMinute, minutes, thousandths, offerStepOf, offerStepsOf, stateOf, outputLimitsOf, rampsOf, startsOf, reserveOffersOf, recordOf, reserveTermsOf, curveStepsOf, zoneRequirementsOf};
+ghost use Rattle.market.specs.Records.{kw, cents, shiftFactor, power, price, perMinute, minutes, thousandths, offerStepOf, offerStepsOf, stateOf, outputLimitsOf, rampsOf, startsOf, reserveOffersOf, recordOf, reserveTermsOf, termsOf, curveStepsOf, zoneRequirementsOf};
 ghost use Rattle.records.specs.Places.{HeadIn, CurveIn, ZoneIn, ResourceIn, FlowgateIn, FactorIn, termsAt, curveStepAt};
 use market::Cents;
 use market::CurveSteps;
@@ -25,6 +25,7 @@ use market::Starts;
 use market::State;
 use market::Status;
 use market::Step;
+use market::Terms;
 use market::Thousandths;
 use market::ZoneRequirements;
 
@@ -211,14 +212,6 @@ pub fn offer_steps(b: &[u8], zones: usize, i: usize) -> OfferSteps
     offer_steps_at(b, 170 + zones * 16 + i * 154)
 }
 
-// The zone of resource i alone, counted from 1.
-pub fn resource_zone(b: &[u8], zones: usize, i: usize) -> u8
-    requires { ⌜ ResourceIn (now b) zones i ⌝ }
-    ensures { λ v. ⌜ v ≡ resourceAt (now (b .entry)) (resourcePlace zones i) .zone ⌝ }
-{
-    wire::u8_at(b, 170 + zones * 16 + i * 154 + 1)
-}
-
 // ---- zones, counted from 0
 
 // Of a zone, for the curve of number k.
@@ -265,25 +258,36 @@ fn terms_at(b: &[u8], pair: usize, n: usize) -> ReserveTerms
     }
 }
 
-pub fn contingency_terms(b: &[u8]) -> ReserveTerms
+fn contingency_terms(b: &[u8]) -> ReserveTerms
     requires { ⌜ HeadIn (now b) ⌝ }
     ensures { λ r. ⌜ r ≡ reserveTermsOf (caseOf (now (b .entry))) contingencyReserve ⌝ }
 {
     terms_at(b, 12, 1)
 }
 
-pub fn regulating_terms(b: &[u8]) -> ReserveTerms
+fn regulating_terms(b: &[u8]) -> ReserveTerms
     requires { ⌜ HeadIn (now b) ⌝ }
     ensures { λ r. ⌜ r ≡ reserveTermsOf (caseOf (now (b .entry))) regulatingReserve ⌝ }
 {
     terms_at(b, 16, 0)
 }
 
-pub fn short_term_terms(b: &[u8]) -> ReserveTerms
+fn short_term_terms(b: &[u8]) -> ReserveTerms
     requires { ⌜ HeadIn (now b) ⌝ }
     ensures { λ r. ⌜ r ≡ reserveTermsOf (caseOf (now (b .entry))) shortTermReserve ⌝ }
 {
     terms_at(b, 20, 2)
+}
+
+pub fn terms(b: &[u8]) -> Terms
+    requires { ⌜ HeadIn (now b) ⌝ }
+    ensures { λ t. ⌜ t ≡ termsOf (caseOf (now (b .entry))) ⌝ }
+{
+    Terms {
+        regulating: regulating_terms(b),
+        contingency: contingency_terms(b),
+        short_term: short_term_terms(b),
+    }
 }
 
 fn curve_step_at(b: &[u8], k: usize, j: usize) -> Step
@@ -299,7 +303,7 @@ fn curve_step_at(b: &[u8], k: usize, j: usize) -> Step
 // The curve of number k.
 pub fn curve_at(b: &[u8], k: usize) -> CurveSteps
     requires { ⌜ CurveIn (now b) k ⌝ }
-    ensures { λ r. ⌜ ((c : Curve) → curveNumber c ≡ k → r ≡ curveStepsOf (caseOf (now (b .entry))) c) ⌝ }
+    ensures { λ r. ⌜ r ≡ curveStepsOf (caseOf (now (b .entry))) (curveNumbered k) ⌝ }
 {
     CurveSteps {
         of: [

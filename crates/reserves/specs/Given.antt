@@ -6,12 +6,15 @@ use Rattle.arith.specs.Sums.{sumOf, upto}
 use Rattle.market.specs.declared.Amounts.{Amounts}
 use Rattle.market.specs.declared.CurveAmounts.{CurveAmounts}
 use Rattle.market.specs.declared.Kw.{Kw}
+use Rattle.market.specs.Case.{Case}
 use Rattle.market.specs.CaseFile.{caseOf}
+use Rattle.market.specs.UpperBounds.{Schedule}
 use Rattle.market.specs.Certificate.{certificateOf}
 use Rattle.market.specs.InWords.{reserveOf, reserveInZone}
 use Rattle.market.specs.Records.{kw, curveAmountsOf}
 use Rattle.units.specs.Room.{SumRoom}
 use Rattle.reserves.specs.declared.ReserveTotals.{ReserveTotals}
+use Rattle.reserves.specs.declared.ZonedAmounts.{ZonedAmounts}
 
 -- amounts of a resource, each within its bound and so at most 2,000,000 kW
 pub record SmallAmounts (a : Amounts) : Type 0 where
@@ -30,6 +33,10 @@ givenBy a spin =
       regulating = a .regulation;
       «short_term» = kw (a .«on_line_short_term» .0 +ℤ a .«off_line_short_term» .0);
     }
+
+-- with the zone of the resource that gives it
+unfoldable pub zonedAmountsOf : Case → Schedule → ℕ → ZonedAmounts
+zonedAmountsOf c x i = record { zone = c .resource i .zone; amounts = curveAmountsOf (λ k. reserveOf c x k i) }
 
 -- the sums of two, row by row
 pub record SumsRoom (a b : CurveAmounts) : Type 0 where

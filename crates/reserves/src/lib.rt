@@ -7,10 +7,10 @@ ghost use lib.IntN.{pos, natAbs};
 ghost use Rattle.market.specs.Case.{Resource as Figures};
 ghost use Rattle.market.specs.CaseFile.{caseOf};
 ghost use Rattle.market.specs.Certificate.{certificateOf};
-ghost use Rattle.market.specs.InWords.{isSpinning, reserveOf};
+ghost use Rattle.market.specs.InWords.{isSpinning};
 ghost use Rattle.market.specs.Records.{kw, curveAmountsOf, stateOf};
 ghost use Rattle.prices.specs.Standing.{Standing};
-ghost use Rattle.reserves.specs.Given.{SmallAmounts, SumsRoom, givenBy, addedAmounts, totalsOf};
+ghost use Rattle.reserves.specs.Given.{SmallAmounts, SumsRoom, givenBy, zonedAmountsOf, addedAmounts, totalsOf};
 use market::Amounts;
 use market::CurveAmounts;
 use market::Kw;
@@ -46,15 +46,25 @@ fn given(a: Amounts, spin: Kw) -> CurveAmounts
     }
 }
 
-// What resource i gives.
-fn reserve_given(b: &[u8], q: &[u8], r: usize, z: usize, f: usize, i: usize) -> CurveAmounts
+// A resource's zone, counted from 1, and what it gives.
+struct ZonedAmounts {
+    zone: u8,
+    amounts: CurveAmounts,
+}
+
+// Of resource i.
+fn reserve_given(b: &[u8], q: &[u8], r: usize, z: usize, f: usize, i: usize) -> ZonedAmounts
     requires { ⌜ Standing (now b) (now q) r z f × (i < r) ⌝ }
-    ensures { λ v. ⌜ v ≡ curveAmountsOf (λ k. reserveOf (caseOf (now (b .entry))) (certificateOf (now (q .entry)) .amount) k i) ⌝ }
+    ensures { λ v. ⌜ v ≡ zonedAmountsOf (caseOf (now (b .entry))) (certificateOf (now (q .entry)) .amount) i ⌝ }
 {
     let resource = readers::resource_at(b, r, z, f, i);
     let a = entries::amounts_at(q, r, z, f, i);
     let spin = spinning(resource.state, a.contingency);
-    given(a, spin)
+    let amounts = given(a, spin);
+    ZonedAmounts {
+        zone: resource.state.zone,
+        amounts,
+    }
 }
 
 fn nothing() -> CurveAmounts
@@ -100,9 +110,10 @@ pub fn totals(b: &[u8], q: &[u8], r: usize, z: usize, f: usize) -> ReserveTotals
     let mut zones = [market; 8];
     let mut i: usize = 0;
     while i < r {
-        let own = reserve_given(b, q, r, z, f, i);
+        let one = reserve_given(b, q, r, z, f, i);
+        let own = one.amounts;
         market = amounts_sum(market, own);
-        let zone = readers::resource_zone(b, r, z, f, i) as usize - 1;
+        let zone = one.zone as usize - 1;
         zones[zone] = amounts_sum(zones[zone], own);
         i += 1;
     }

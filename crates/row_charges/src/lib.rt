@@ -42,7 +42,7 @@ fn write_balance(b: &[u8], q: &[u8], r: usize, z: usize, f: usize, out: &mut [i6
 {
     let price = entries::balance_price(q, r, z, f);
     let total = rows::energy_total(q, r, z, f);
-    let demand = records::demand(b);
+    let demand = readers::demand(b, r, z, f);
     let value = charge(price, total, demand);
     let number = value.0;
     out[0] = number;

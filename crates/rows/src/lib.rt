@@ -49,7 +49,7 @@ fn balanced(b: &[u8], q: &[u8], r: usize, z: usize, f: usize) -> bool
     ensures { λ t. ⌜ t ≡ rowMet (caseOf (now (b .entry))) (certificateOf (now (q .entry))) Balance ⌝ }
 {
     let total = energy_total(q, r, z, f);
-    let demand = records::demand(b);
+    let demand = readers::demand(b, r, z, f);
     if !units::at_least(total, demand) {
         return false;
     }

@@ -33,7 +33,7 @@ first-read : (c : tie.After-cleared-curve) →
 unfolding reservePricesOf clearedOf
 first-read c =
     let s = c .before .before .before .before .before in
-    curve-read (s .args .b .now) (s .args .q .now) operating (c .cleared-curve .ensures operating refl) (ap (λ (p : ReservePrices). p .operating) (c .before .before .market-prices .ensures)) (ap (λ (a : CurveAmounts). a .operating) (c .before .cleared .ensures))
+    curve-read (s .args .b .now) (s .args .q .now) operating (c .cleared-curve .ensures) (ap (λ (p : ReservePrices). p .operating) (c .before .before .market-prices .ensures)) (ap (λ (a : CurveAmounts). a .operating) (c .before .cleared .ensures))
 
 second-read : (c : tie.After-cleared-curve2) →
     let s = c .before .before .before .before .before .before in
@@ -41,7 +41,7 @@ second-read : (c : tie.After-cleared-curve2) →
 unfolding reservePricesOf clearedOf
 second-read c =
     let s = c .before .before .before .before .before .before in
-    curve-read (s .args .b .now) (s .args .q .now) regulatingPlusSpinning (c .cleared-curve2 .ensures regulatingPlusSpinning refl) (ap (λ (p : ReservePrices). p .«regulating_plus_spinning») (c .before .before .before .market-prices .ensures)) (ap (λ (a : CurveAmounts). a .«regulating_plus_spinning») (c .before .before .cleared .ensures))
+    curve-read (s .args .b .now) (s .args .q .now) regulatingPlusSpinning (c .cleared-curve2 .ensures) (ap (λ (p : ReservePrices). p .«regulating_plus_spinning») (c .before .before .before .market-prices .ensures)) (ap (λ (a : CurveAmounts). a .«regulating_plus_spinning») (c .before .before .cleared .ensures))
 
 third-read : (c : tie.After-cleared-curve3) →
     let s = c .before .before .before .before .before .before .before in
@@ -49,7 +49,7 @@ third-read : (c : tie.After-cleared-curve3) →
 unfolding reservePricesOf clearedOf
 third-read c =
     let s = c .before .before .before .before .before .before .before in
-    curve-read (s .args .b .now) (s .args .q .now) regulating (c .cleared-curve3 .ensures regulating refl) (ap (λ (p : ReservePrices). p .regulating) (c .before .before .before .before .market-prices .ensures)) (ap (λ (a : CurveAmounts). a .regulating) (c .before .before .before .cleared .ensures))
+    curve-read (s .args .b .now) (s .args .q .now) regulating (c .cleared-curve3 .ensures) (ap (λ (p : ReservePrices). p .regulating) (c .before .before .before .before .market-prices .ensures)) (ap (λ (a : CurveAmounts). a .regulating) (c .before .before .before .cleared .ensures))
 
 fourth-read : (c : tie.After-cleared-curve4) →
     let s = c .before .before .before .before .before .before .before .before in
@@ -57,7 +57,7 @@ fourth-read : (c : tie.After-cleared-curve4) →
 unfolding reservePricesOf clearedOf
 fourth-read c =
     let s = c .before .before .before .before .before .before .before .before in
-    curve-read (s .args .b .now) (s .args .q .now) shortTerm (c .cleared-curve4 .ensures shortTerm refl) (ap (λ (p : ReservePrices). p .«short_term») (c .before .before .before .before .before .market-prices .ensures)) (ap (λ (a : CurveAmounts). a .«short_term») (c .before .before .before .before .cleared .ensures))
+    curve-read (s .args .b .now) (s .args .q .now) shortTerm (c .cleared-curve4 .ensures) (ap (λ (p : ReservePrices). p .«short_term») (c .before .before .before .before .before .market-prices .ensures)) (ap (λ (a : CurveAmounts). a .«short_term») (c .before .before .before .before .cleared .ensures))
 
 -- behind two curves there is room for two more
 room : (c : tie.After-write-pair) → 16 ≤ length (c .write-pair .last .1 .1 .0)

@@ -1,5 +1,5 @@
 -- `costs::curves_value` meets its contract.
-use mathlib.Core.Path.{_≡_, refl, ap, _∙_}
+use mathlib.Core.Path.{_≡_, ap, _∙_}
 use native.Mathlib.Omega.{arith}
 use borrow.Author.Needs.{needs}
 use Rattle.market.specs.Case.{operating, regulatingPlusSpinning, regulating, shortTerm}
@@ -17,7 +17,7 @@ curve-value-requires : tie.Need-curve-value-requires
 unfolding clearedOf
 curve-value-requires c κs =
     let s = c .before .before .before .before in
-    rw (c .curve-at .ensures operating refl, c .before .cleared .ensures) (curve-known (s .pre) operating, cleared-known (s .pre) operating)
+    rw (c .curve-at .ensures, c .before .cleared .ensures) (curve-known (s .pre) operating, cleared-known (s .pre) operating)
 
 operating-value : (c : tie.After-curve-value) →
     let s = c .before .before .before .before .before in
@@ -26,13 +26,13 @@ unfolding clearedOf
 operating-value c =
     let s = c .before .before .before .before .before in
     c .curve-value .ensures
-    ∙ rw (c .before .curve-at .ensures operating refl, c .before .before .cleared .ensures) (ap thousands (curve-value-is (caseOf (s .args .b .now)) (certificateOf (s .args .q .now) .amount) operating))
+    ∙ rw (c .before .curve-at .ensures, c .before .before .cleared .ensures) (ap thousands (curve-value-is (caseOf (s .args .b .now)) (certificateOf (s .args .q .now) .amount) operating))
 
 curve-value-requires-2 : tie.Need-curve-value-requires-2
 unfolding clearedOf
 curve-value-requires-2 c κs =
     let s = c .before .before .before .before .before .before in
-    rw (c .curve-at2 .ensures regulatingPlusSpinning refl, c .before .before .before .cleared .ensures) (curve-known (s .pre) regulatingPlusSpinning, cleared-known (s .pre) regulatingPlusSpinning)
+    rw (c .curve-at2 .ensures, c .before .before .before .cleared .ensures) (curve-known (s .pre) regulatingPlusSpinning, cleared-known (s .pre) regulatingPlusSpinning)
 
 spinning-value : (c : tie.After-curve-value2) →
     let s = c .before .before .before .before .before .before .before in
@@ -41,13 +41,13 @@ unfolding clearedOf
 spinning-value c =
     let s = c .before .before .before .before .before .before .before in
     c .curve-value2 .ensures
-    ∙ rw (c .before .curve-at2 .ensures regulatingPlusSpinning refl, c .before .before .before .before .cleared .ensures) (ap thousands (curve-value-is (caseOf (s .args .b .now)) (certificateOf (s .args .q .now) .amount) regulatingPlusSpinning))
+    ∙ rw (c .before .curve-at2 .ensures, c .before .before .before .before .cleared .ensures) (ap thousands (curve-value-is (caseOf (s .args .b .now)) (certificateOf (s .args .q .now) .amount) regulatingPlusSpinning))
 
 curve-value-requires-3 : tie.Need-curve-value-requires-3
 unfolding clearedOf
 curve-value-requires-3 c κs =
     let s = c .before .before .before .before .before .before .before .before in
-    rw (c .curve-at3 .ensures regulating refl, c .before .before .before .before .before .cleared .ensures) (curve-known (s .pre) regulating, cleared-known (s .pre) regulating)
+    rw (c .curve-at3 .ensures, c .before .before .before .before .before .cleared .ensures) (curve-known (s .pre) regulating, cleared-known (s .pre) regulating)
 
 regulating-value : (c : tie.After-curve-value3) →
     let s = c .before .before .before .before .before .before .before .before .before in
@@ -56,7 +56,7 @@ unfolding clearedOf
 regulating-value c =
     let s = c .before .before .before .before .before .before .before .before .before in
     c .curve-value3 .ensures
-    ∙ rw (c .before .curve-at3 .ensures regulating refl, c .before .before .before .before .before .before .cleared .ensures) (ap thousands (curve-value-is (caseOf (s .args .b .now)) (certificateOf (s .args .q .now) .amount) regulating))
+    ∙ rw (c .before .curve-at3 .ensures, c .before .before .before .before .before .before .cleared .ensures) (ap thousands (curve-value-is (caseOf (s .args .b .now)) (certificateOf (s .args .q .now) .amount) regulating))
 
 curve-at-requires-4 : tie.Need-curve-at-requires-4
 curve-at-requires-4 c κs = curve-in (c .before .before .before .before .before .before .before .before .before .pre .prices .case-bytes) 3 (omega arith)
@@ -65,7 +65,7 @@ curve-value-requires-4 : tie.Need-curve-value-requires-4
 unfolding clearedOf
 curve-value-requires-4 c κs =
     let s = c .before .before .before .before .before .before .before .before .before .before in
-    rw (c .curve-at4 .ensures shortTerm refl, c .before .before .before .before .before .before .before .cleared .ensures) (curve-known (s .pre) shortTerm, cleared-known (s .pre) shortTerm)
+    rw (c .curve-at4 .ensures, c .before .before .before .before .before .before .before .cleared .ensures) (curve-known (s .pre) shortTerm, cleared-known (s .pre) shortTerm)
 
 short-term-value : (c : tie.After-curve-value4) →
     let s = c .before .before .before .before .before .before .before .before .before .before .before in
@@ -74,7 +74,7 @@ unfolding clearedOf
 short-term-value c =
     let s = c .before .before .before .before .before .before .before .before .before .before .before in
     c .curve-value4 .ensures
-    ∙ rw (c .before .curve-at4 .ensures shortTerm refl, c .before .before .before .before .before .before .before .before .cleared .ensures) (ap thousands (curve-value-is (caseOf (s .args .b .now)) (certificateOf (s .args .q .now) .amount) shortTerm))
+    ∙ rw (c .before .curve-at4 .ensures, c .before .before .before .before .before .before .before .before .cleared .ensures) (ap thousands (curve-value-is (caseOf (s .args .b .now)) (certificateOf (s .args .q .now) .amount) shortTerm))
 
 sum-requires : tie.Need-sum-requires
 sum-requires c κs =

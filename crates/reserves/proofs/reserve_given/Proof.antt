@@ -1,13 +1,14 @@
-use mathlib.Core.Path.{_≡_, ap, _∙_}
+use mathlib.Core.Path.{_≡_, _∙_}
 use mathlib.Core.Bool.{cond}
 use lib.IntN.{pos}
 use Rattle.market.specs.CaseFile.{caseOf}
 use Rattle.market.specs.UpperBounds.{contingency}
 use Rattle.market.specs.Certificate.{certificateOf}
-use Rattle.market.specs.InWords.{isSpinning, kwOf}
-use Rattle.market.specs.Records.{kw, recordOf, amountsOf}
-use Rattle.records.proofs.Places.{resource-is}
+use Rattle.market.specs.InWords.{isSpinning, kwOf, reserveOf}
+use Rattle.market.specs.Records.{kw, recordOf, stateOf, amountsOf, curveAmountsOf}
+use Rattle.records.proofs.Places.{record-is}
 use Rattle.limits.proofs.Fields.{state-is}
+use Rattle.reserves.specs.Given.{zonedAmountsOf}
 use Rattle.reserves.proofs.Known.{amounts-small, spin-small, given-is}
 use borrow.Author.Needs.{needs}
 use Rattle.reserves.proofs.reserve_given.Statement.{statement}
@@ -20,7 +21,7 @@ spin-is : (c : tie.After-spinning) →
 unfolding amountsOf
 spin-is c =
     let s = c .before .before .before .before .before in
-    c .spinning .ensures (caseOf (s .args .b .now) .resource (s .args .i)) (state-is _ (c .before .before .resource-at .ensures ∙ ap recordOf (resource-is (s .pre .0 .prices .case-bytes) (s .args .i))))
+    c .spinning .ensures (caseOf (s .args .b .now) .resource (s .args .i)) (state-is _ (record-is (s .pre .0 .prices .case-bytes) (s .args .i) (c .before .before .resource-at .ensures)))
     ∙ rw (c .before .amounts-at .ensures)
 
 given-requires : tie.Need-given-requires
@@ -28,10 +29,19 @@ given-requires c κs =
     let s = c .before .before .before .before .before in
     rw (spin-is c, c .before .amounts-at .ensures) (amounts-small (s .pre .0) (s .args .i) (s .pre .1), spin-small (s .pre .0) (s .args .i) (s .pre .1))
 
-returns : tie.Need-returns
-returns c =
+amounts-are : (c : tie.After-given) →
+    let s = c .before .before .before .before .before .before in
+    c .given .result ≡ curveAmountsOf (λ k. reserveOf (caseOf (s .args .b .now)) (certificateOf (s .args .q .now) .amount) k (s .args .i))
+amounts-are c =
     let s = c .before .before .before .before .before .before in
     c .given .ensures ∙ rw (spin-is (c .before), c .before .before .amounts-at .ensures) (given-is (caseOf (s .args .b .now)) (certificateOf (s .args .q .now) .amount) (s .args .i))
+
+returns : tie.Need-returns
+unfolding zonedAmountsOf recordOf stateOf
+returns c =
+    let s = c .before .before .before .before .before .before in
+    let resource = record-is (s .pre .0 .prices .case-bytes) (s .args .i) (c .before .before .before .resource-at .ensures) in
+    λ j. record { zone = resource j .state .zone; amounts = amounts-are c j }
 
 pub reserve-given-spec : {M : Type 1} → statement M
 reserve-given-spec =

@@ -4,12 +4,12 @@ use mathlib.Core.Path.{_≡_, ap, _∙_}
 use Prim.Native.Nat.{_-_, _≤_}
 use native.Mathlib.Omega.{arith}
 use Rattle.arith.specs.Sums.{sumOf, upto}
-use Rattle.market.specs.Case.{Resource}
 use Rattle.market.specs.CaseFile.{caseOf}
 use Rattle.market.specs.Certificate.{certificateOf}
 use Rattle.market.specs.InWords.{reserveOf}
-use Rattle.records.proofs.Places.{resource-in, resource-is}
-use Rattle.reserves.specs.Given.{marketTotal, zoneTotals}
+use Rattle.market.specs.Records.{curveAmountsOf}
+use Rattle.reserves.specs.declared.ZonedAmounts.{ZonedAmounts}
+use Rattle.reserves.specs.Given.{zonedAmountsOf, marketTotal, zoneTotals}
 use Rattle.reserves.proofs.Known.{given-small}
 use Rattle.reserves.proofs.Sums.{sums-more, sums-room}
 use Rattle.reserves.proofs.Zones.{zone-from-one, zone-of-eight, zone-room, zones-more}
@@ -30,55 +30,51 @@ loop-holds c = (omega arith, c .nothing .ensures, rw (c .nothing .ensures))
 reserve-given-requires : tie.Need-reserve-given-requires Inv-loop μ-loop
 reserve-given-requires c κs = let s = c .before .before .before .before .before in (s .pre, omega arith)
 
+-- the zone that is read is the case's, and so is what is given
+zone-is : (c : tie.After-reserve-given Inv-loop μ-loop) →
+    c .reserve-given .result .zone ≡ caseOf (c .before .before .before .before .before .before .args .b .now) .resource (c .before .before .loop .i) .zone
+unfolding zonedAmountsOf
+zone-is c = ap (λ (v : ZonedAmounts). v .zone) (c .reserve-given .ensures)
+
+own-is : (c : tie.After-reserve-given Inv-loop μ-loop) →
+    let s = c .before .before .before .before .before .before in
+    c .reserve-given .result .amounts ≡ curveAmountsOf (λ k. reserveOf (caseOf (s .args .b .now)) (certificateOf (s .args .q .now) .amount) k (c .before .before .loop .i))
+unfolding zonedAmountsOf
+own-is c = ap (λ (v : ZonedAmounts). v .amounts) (c .reserve-given .ensures)
+
 amounts-sum-requires : tie.Need-amounts-sum-requires Inv-loop μ-loop
 amounts-sum-requires c κs =
-    let s = c .before .before .before .before .before .before in
-    rw (c .before .before .loop .inv .1, c .reserve-given .ensures)
-    (sums-room (λ k. reserveOf (caseOf (s .args .b .now)) (certificateOf (s .args .q .now) .amount) k) (s .args .r) (s .pre .prices .case-bytes .most-resources) (given-small (s .pre)) (c .before .before .loop .i) (omega arith))
-
-resource-zone-requires : tie.Need-resource-zone-requires Inv-loop μ-loop
-resource-zone-requires c κs =
     let s = c .before .before .before .before .before .before .before in
-    resource-in (s .pre .prices .case-bytes) (c .before .before .before .loop .i) (omega arith)
-
--- the zone that is read is the case's
-zone-is : (c : tie.After-resource-zone Inv-loop μ-loop) →
-    let s = c .before .before .before .before .before .before .before .before in
-    c .resource-zone .result ≡ caseOf (s .args .b .now) .resource (c .before .before .before .before .loop .i) .zone
-zone-is c =
-    let s = c .before .before .before .before .before .before .before .before in
-    c .resource-zone .ensures ∙ ap (λ (v : Resource). v .zone) (resource-is (s .pre .prices .case-bytes) (c .before .before .before .before .loop .i))
+    let l = c .before .before .before .loop in
+    rw (l .inv .1, own-is (c .before))
+    (sums-room (λ k. reserveOf (caseOf (s .args .b .now)) (certificateOf (s .args .q .now) .amount) k) (s .args .r) (s .pre .prices .case-bytes .most-resources) (given-small (s .pre)) (l .i) (omega arith))
 
 sub-zone : tie.Need-sub-zone Inv-loop μ-loop
-sub-zone c =
-    let s = c .before .before .before .before .before .before .before .before in
-    zone-from-one (s .pre) (c .before .before .before .before .loop .i) _ (omega arith) (zone-is c)
+sub-zone c = zone-from-one (c .before .before .before .before .before .before .before .before .before .pre) (c .before .before .before .before .before .loop .i) _ (omega arith) (zone-is (c .before .before .before))
 
 in-array : tie.Need-array-copy-out-amounts-sum Inv-loop μ-loop
-in-array c =
-    let s = c .before .before .before .before .before .before .before .before in
-    zone-of-eight (s .pre) (c .before .before .before .before .loop .i) _ (omega arith) (zone-is c)
+in-array c = zone-of-eight (c .before .before .before .before .before .before .before .before .before .pre) (c .before .before .before .before .before .loop .i) _ (omega arith) (zone-is (c .before .before .before))
 
 amounts-sum-requires-2 : tie.Need-amounts-sum-requires-2 Inv-loop μ-loop
 amounts-sum-requires-2 c κs =
-    let s = c .before .before .before .before .before .before .before .before .before in
-    let l = c .before .before .before .before .before .loop in
-    rw (l .inv .2, c .before .before .before .reserve-given .ensures) (zone-room (s .pre) (l .i) (c .before .resource-zone .result) (omega arith) (zone-is (c .before)) _)
+    let l = c .before .before .before .before .before .before .loop in
+    let given = c .before .before .before .before in
+    rw (l .inv .2, own-is given) (zone-room (c .before .before .before .before .before .before .before .before .before .before .pre) (l .i) (given .reserve-given .result .zone) (omega arith) (zone-is given) _)
 
 array-set-from-zones : tie.Need-array-set-from-zones Inv-loop μ-loop
 array-set-from-zones c = in-array (c .before .before)
 
 add-i : tie.Need-add-i Inv-loop μ-loop
-add-i c = let s = c .before .before .before .before .before .before .before .before .before .before in omega (arith, s .pre .prices .case-bytes .most-resources)
+add-i c = let s = c .before .before .before .before .before .before .before .before .before .before .before in omega (arith, s .pre .prices .case-bytes .most-resources)
 
 loop-again : tie.Need-loop-again Inv-loop μ-loop
 loop-again c =
-    let s = c .before .before .before .before .before .before .before .before .before .before in
-    let l = c .before .before .before .before .before .before .loop in
-    let own = c .before .before .before .before .reserve-given .ensures in (
+    let s = c .before .before .before .before .before .before .before .before .before .before .before in
+    let l = c .before .before .before .before .before .before .before .loop in
+    let given = c .before .before .before .before .before in (
       omega arith,
-      c .before .before .before .amounts-sum .ensures ∙ rw (l .inv .1, own) (sums-more (λ k. reserveOf (caseOf (s .args .b .now)) (certificateOf (s .args .q .now) .amount) k) (l .i)),
-      rw (c .amounts-sum2 .ensures, l .inv .2, own) (zones-more (s .pre) (l .i) (c .before .before .resource-zone .result) (omega arith) (zone-is (c .before .before)) _),
+      c .before .before .before .amounts-sum .ensures ∙ rw (l .inv .1, own-is given) (sums-more (λ k. reserveOf (caseOf (s .args .b .now)) (certificateOf (s .args .q .now) .amount) k) (l .i)),
+      rw (c .amounts-sum2 .ensures, l .inv .2, own-is given) (zones-more (s .pre) (l .i) (given .reserve-given .result .zone) (omega arith) (zone-is given) _),
     )
 
 returns : tie.Need-returns Inv-loop μ-loop
@@ -98,7 +94,6 @@ totals-spec =
     loop-holds
     reserve-given-requires
     amounts-sum-requires
-    resource-zone-requires
     (λ c. search needs)
     sub-zone
     (λ c. search needs)
