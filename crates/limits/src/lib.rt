@@ -76,7 +76,15 @@ fn larger(a: Kw, b: Kw) -> Kw
     a
 }
 
-// a × times / over, rounded down: first multiplied, then divided.
+// n × times / over, rounded down: first multiplied, then divided.
+fn quotient(n: u64, times: u64, over: u64) -> u64
+    requires { ⌜ (n * times ≤ 24000000000) × (1 ≤ over) ⌝ }
+    ensures { λ q. ⌜ q ≡ n * times / over ⌝ }
+{
+    n * times / over
+}
+
+// a × times / over, as an amount.
 fn portion(a: Kw, times: Thousandths, over: Thousandths) -> Kw
     requires { ⌜ UpTo (a .0) 24000000 × ((times .0 ≤ 1000) × (1 ≤ over .0)) ⌝ }
     ensures { λ r. ⌜ ((n : ℕ) → a ≡ power n → r ≡ power (n * times .0 / over .0)) ⌝ }
@@ -84,7 +92,7 @@ fn portion(a: Kw, times: Thousandths, over: Thousandths) -> Kw
     let n = a.0 as u64;
     let m = times.0 as u64;
     let d = over.0 as u64;
-    Kw((n * m / d) as i64)
+    Kw(quotient(n, m, d) as i64)
 }
 
 // At least 500 kW, produced or taken.

@@ -1,5 +1,5 @@
 -- `limits::portion` meets its contract: a number that is not negative goes to an unsigned one and back. Assumes nothing.
-use Prim.Native.Nat.{_*_, _/_, _≤_}
+use Prim.Native.Nat.{_≤_}
 use native.Mathlib.Omega.{arith}
 use borrow.Author.Needs.{needs}
 use lib.IntN.{natAbs}
@@ -13,28 +13,25 @@ use Rattle.limits.proofs.portion.Tie as tie
 cast-n : tie.Need-cast-n
 cast-n c = rw (read-back (c .struct-told .given .0 .1)) (rw (c .before .before .pre .0 .natural) tt, omega arith)
 
-mul-t7 : tie.Need-mul-t7
-mul-t7 c =
+quotient-requires : tie.Need-quotient-requires
+quotient-requires c κs =
     let s = c .before .before .before .before in
     rw (read-back (c .before .before .struct-told .given .0 .1))
-    (omega (arith, product-most (natAbs (s .args .a .0)) (s .args .times .0) (s .pre .0 .at-most) (s .pre .1 .0)))
+    (product-most (natAbs (s .args .a .0)) (s .args .times .0) (s .pre .0 .at-most) (s .pre .1 .0), s .pre .1 .1)
 
-small : (c : tie.After-struct-known3) → natAbs (c .before .before .before .before .args .a .0) * c .before .before .before .before .args .times .0 / c .before .before .before .before .args .over .0 ≤ 24000000000
+small : (c : tie.After-quotient) → c .quotient .result ≤ 24000000000
 small c =
-    let s = c .before .before .before .before in
-    quotient-most (natAbs (s .args .a .0)) (s .args .times .0) (s .args .over .0) (s .pre .0 .at-most) (s .pre .1 .0)
-
-cast-t9 : tie.Need-cast-t9
-cast-t9 c = rw (read-back (c .before .before .struct-told .given .0 .1)) (fits-abs {w = w64} (omega (arith, small c)))
+    let s = c .before .before .before .before .before in
+    rw (c .quotient .ensures, read-back (c .before .before .before .struct-told .given .0 .1))
+    (quotient-most (natAbs (s .args .a .0)) (s .args .times .0) (s .args .over .0) (s .pre .0 .at-most) (s .pre .1 .0))
 
 returns : tie.Need-returns
-returns c =
-    let s = c .before .before .before .before in
-    λ n e. rw (
-      read-back (c .before .before .struct-told .given .0 .1),
-      small-bits (natAbs (s .args .a .0) * s .args .times .0 / s .args .over .0) (omega (arith, small c)),
-      e,
-    )
+returns c = λ n e. rw (
+  small-bits (c .quotient .result) (omega (arith, small c)),
+  c .quotient .ensures,
+  read-back (c .before .before .before .struct-told .given .0 .1),
+  e,
+)
 
 pub portion-spec : {M : Type 1} → statement M
 portion-spec =
@@ -43,7 +40,6 @@ portion-spec =
     cast-n
     (λ c. search needs)
     (λ c. search needs)
-    mul-t7
-    (λ c. search needs)
-    cast-t9
+    quotient-requires
+    (λ c. fits-abs {w = w64} (omega (arith, small c)))
     returns)
