@@ -2,7 +2,8 @@
 -- numbers n are a case's resources by the code's count.
 use mathlib.Core.Path.{_≡_, sym, ap}
 use mathlib.Core.List.{[], _∷_, map}
-use Prim.Native.Nat.{ℕ, _+_, _<_, _≤_}
+use Prim.Native.Nat.{ℕ, _+_, _*_, _<_, _≤_}
+use native.Mathlib.Nat.{mul-le-mul}
 use native.Mathlib.Omega.{arith}
 use lib.IntN.{ℤ, pos, natAbs, _+ℤ_, _-ℤ_, _*ℤ_}
 use Rattle.arith.specs.Sums.{sumOf, upto}
@@ -53,6 +54,15 @@ right-most a b = omega (arith, ap natAbs (back a b), abs-sub a (a -ℤ b))
   where
     back : (a b : ℤ) → b ≡ a -ℤ (a -ℤ b)
     back a b = simp sorted (simp count (omega arith))
+
+-- a flowgate's price times a difference of its row's sides
+abbrev pub mostSide : ℕ
+mostSide = 1000000000000
+
+pub flow-value-room : (p a b : ℤ) → natAbs p ≤ 400000 → natAbs a ≤ mostSide → natAbs b ≤ mostSide → ProductRoom p (a -ℤ b)
+flow-value-room p a b h l m =
+    let most : natAbs (a -ℤ b) ≤ 2 * mostSide = omega (arith, abs-sub a b) in
+    record { left = omega arith; right = omega arith; product = omega (arith, mul-le-mul h most) }
 
 module _ (c : Case) (x : Schedule) (y : Prices) where
   words : RowsInWords c x
@@ -126,9 +136,15 @@ module _ (c : Case) (x : Schedule) (y : Prices) where
     pub balance-room : (n : ℕ) → n ≡ c .resources → ChargeRoom (y Balance) (sumOf (λ i. kwOf x i energy) (upto n)) (pos (c .demand))
     balance-room n e = rw e (room-by-right Balance tt _ _ (words .balance) (h .demand-to))
 
-    pub flowgate-room : (n g : ℕ) → n ≡ c .resources → g < c .flowgates →
-        ChargeRoom (y (Flowgate g)) (pos 1000 *ℤ c .flowgateLimit g) (sumOf (λ i. c .shiftFactor g i *ℤ kwOf x i energy) (upto n))
-    flowgate-room n g e m = rw e (room-by-left (Flowgate g) m _ _ (words .flowgate g) (omega (arith, abs-mul (pos 1000) (c .flowgateLimit g), h .flowgate-limit g m .le)))
+    -- the sides of a flowgate's row
+    pub limit-side : (g : ℕ) → g < c .flowgates → natAbs (pos 1000 *ℤ c .flowgateLimit g) ≤ mostSide
+    limit-side g m = omega (arith, abs-mul (pos 1000) (c .flowgateLimit g), h .flowgate-limit g m .le)
+
+    pub flow-side : (n g : ℕ) → n ≡ c .resources → g < c .flowgates → natAbs (sumOf (λ i. c .shiftFactor g i *ℤ kwOf x i energy) (upto n)) ≤ mostSide
+    flow-side n g e m =
+        let limit = pos 1000 *ℤ c .flowgateLimit g in
+        let flows = sumOf (λ i. c .shiftFactor g i *ℤ kwOf x i energy) (upto (c .resources)) in
+        rw e (omega (arith, abs-mul (pos 1000) (c .flowgateLimit g), h .flowgate-limit g m .le, right-most limit flows, difference-small (Flowgate g) m limit flows (words .flowgate g)))
 
     four-room : (row : Curve → Row) (have need : Curve → ℤ) → ((k : Curve) → ChargeRoom (y (row k)) (have k) (need k)) →
         FourRoom (reservePricesOf y row) (curveAmountsOf have) (curveAmountsOf need)
