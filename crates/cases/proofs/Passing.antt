@@ -16,13 +16,13 @@ use Rattle.market.specs.Bytes.{u8At, u32At, within}
 use Rattle.market.specs.CaseFile.{caseOf, caseSize}
 use Rattle.market.specs.CaseCheck.{mostResources, mostZones, mostFlowgates, lengthRight, versionRight, countsRight, caseSizeRight, fieldsInRange, stepsRule, limitsOrdered}
 use Rattle.market.specs.Records.{countsIn}
-use Rattle.market.specs.Refusals.{Finding, clear, holds, unless, firstOf, caseAnswerOf}
+use Rattle.market.specs.Refusals.{Finding, clear, holds, unless, firstOf}
 use Rattle.market.specs.Outcome.{caseGrounds, Valid}
 use Rattle.market.proofs.Grounds.{none-holds}
 use Rattle.wire.specs.CaseBytes.{CaseBytes}
 use Rattle.cases.specs.declared.Stage.{Stage}
 use Rattle.cases.specs.declared.Stage.the-variants.{Passed, Refused}
-use Rattle.cases.specs.Stages.{stageOf, tested, shapeOf, Shaped, Staged, answerAfter}
+use Rattle.cases.specs.Stages.{stageOf, tested, shapeOf, Shaped, Staged}
 
 -- ---- from tests to inequalities
 pub length-from : (b : List ℕ) → lengthRight 170 b ≡ true → 170 ≤ length b
@@ -135,8 +135,3 @@ module _ (b : List ℕ) (n : Counts) (h : stageOf (countsIn (caseOf b)) (firstOf
       let limits = passed-test _ (limitsOrdered (caseOf b)) R.LimitPair n (stages-are b ∙ h) in
       let steps = passed-test _ (stepsRule (caseOf b)) R.StepRule n (limits .1) in
       shape-bytes b n (passed-test (shapeOf b) (fieldsInRange (caseOf b)) R.FieldRange n (steps .1) .1)
-
--- the answer of the case check
-pub answer-is : (n : Counts) (f : Finding) → answerAfter (stageOf n f) ≡ caseAnswerOf f
-answer-is n clear = refl
-answer-is n (holds r) = refl

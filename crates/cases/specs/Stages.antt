@@ -7,10 +7,6 @@ use Prim.Native.Nat.{ℕ}
 use Rattle.market.specs.declared.Refusal.{Refusal}
 use Rattle.market.specs.declared.Refusal.the-variants as R
 use Rattle.market.specs.declared.Counts.{Counts}
-use Rattle.market.specs.declared.CaseAnswer.{CaseAnswer}
-use Rattle.market.specs.declared.CaseAnswer.the-variants as C
-use Rattle.market.specs.declared.Transfer.{Transfer}
-use Rattle.market.specs.declared.Transfer.the-variants as W
 use Rattle.market.specs.CaseFile.{caseOf}
 use Rattle.market.specs.CaseCheck.{lengthRight, versionRight, countsRight, caseSizeRight}
 use Rattle.market.specs.Records.{countsIn}
@@ -51,12 +47,3 @@ pub record Shaped (b : List ℕ) (s : Stage) : Type 0 where
 pub record Staged (b : List ℕ) (s : Stage) (t : Bool) (w : Refusal) (r : Stage) : Type 0 where
   pub answer : r ≡ tested s t w
   pub shaped : Shaped b r
-
-abbrev pub answerAfter : Stage → CaseAnswer
-answerAfter (Passed n) = C.Valid
-answerAfter (Refused r) = C.Refused r
-
--- the answer of a reading or a writing to what was refused; it is not asked of what has passed
-abbrev pub transferAfter : Stage → Transfer
-transferAfter (Passed n) = W.Written 0
-transferAfter (Refused r) = W.Refused r

@@ -3,7 +3,6 @@
 use market::CaseAnswer;
 use market::Counts;
 use market::Refusal;
-use market::Transfer;
 ghost use mathlib.Core.Path.{_≡_};
 ghost use Prim.Native.Nat.{_+_, _*_, _<_, _≤_};
 ghost use lib.Dec.{leb, eqb};
@@ -21,7 +20,7 @@ ghost use Rattle.market.specs.Refusals.{firstOf};
 ghost use Rattle.market.specs.Outcome.{caseGrounds, caseAnswer};
 ghost use Rattle.wire.specs.Within.{Within};
 ghost use Rattle.wire.specs.CaseBytes.{CaseBytes};
-ghost use Rattle.cases.specs.Stages.{stageOf, shapeOf, Shaped, Staged, answerAfter, transferAfter};
+ghost use Rattle.cases.specs.Stages.{stageOf, shapeOf, Shaped, Staged};
 ghost use Rattle.cases.specs.Pieces.{offerStarts, offerFollows, offerRight, curveStarts, curveFollows, curveRight, limitsRight};
 
 // What the stages so far have found: the counts of a file that has passed them, or the first ground that holds.
@@ -380,31 +379,12 @@ pub fn case_stage(b: &[u8]) -> Stage
     limits_stage(b, steps)
 }
 
-fn turned_away(answer: Stage) -> CaseAnswer
-    ensures { λ r. ⌜ r ≡ answerAfter answer ⌝ }
-{
-    match answer {
-        Stage::Passed(_) => CaseAnswer::Valid,
-        Stage::Refused(why) => CaseAnswer::Refused(why),
-    }
-}
-
-// For the readings and writings of files.
-pub fn transfer_refused(answer: Stage) -> Transfer
-    ensures { λ r. ⌜ r ≡ transferAfter answer ⌝ }
-{
-    match answer {
-        Stage::Passed(_) => Transfer::Written(0),
-        Stage::Refused(why) => Transfer::Refused(why),
-    }
-}
-
 pub fn check_case(b: &[u8]) -> CaseAnswer
     ensures { λ r. ⌜ r ≡ caseAnswer (now (b .entry)) ⌝ }
 {
-    let answer = case_stage(b);
-    let Stage::Passed(_) = answer else {
-        return turned_away(answer);
+    let stage = case_stage(b);
+    let Stage::Refused(why) = stage else {
+        return CaseAnswer::Valid;
     };
-    CaseAnswer::Valid
+    CaseAnswer::Refused(why)
 }

@@ -3,6 +3,7 @@
 use cases::Stage;
 use market::Amounts;
 use market::CurveAmounts;
+use market::First;
 use market::Kw;
 use market::OfferSteps;
 use market::Refusal;
@@ -70,52 +71,52 @@ fn service_bounds(r: Resource, steps: OfferSteps, terms: Terms) -> Amounts
     }
 }
 
-// ---- 13: the place of the first quantity above its bound, 0 if there is none
-fn cleared_above(given: CurveAmounts, most: CurveAmounts) -> u32
+// ---- 13: the first quantity above its bound, by its place
+fn cleared_above(given: CurveAmounts, most: CurveAmounts) -> First
     ensures { λ n. ⌜ ((x u : Schedule) → given ≡ clearedOf x → most ≡ clearedOf u → foundAt AboveBound n ≡ firstFailing (λ a. leb (x a) (u a)) AboveBound 1 (map Cleared curves)) ⌝ }
 {
     if !units::at_least(most.operating, given.operating) {
-        return 1;
+        return First::At(1);
     }
     if !units::at_least(
         most.regulating_plus_spinning,
         given.regulating_plus_spinning,
     ) {
-        return 2;
+        return First::At(2);
     }
     if !units::at_least(most.regulating, given.regulating) {
-        return 3;
+        return First::At(3);
     }
     if !units::at_least(most.short_term, given.short_term) {
-        return 4;
+        return First::At(4);
     }
-    0
+    First::None
 }
 
 // Among a resource's five, the first of them at this place.
-fn provided_above(given: Amounts, most: Amounts, place: u32) -> u32
-    requires { ⌜ (1 ≤ place) × (place ≤ 1000) ⌝ }
+fn provided_above(given: Amounts, most: Amounts, place: u32) -> First
+    requires { ⌜ place ≤ 1000 ⌝ }
     ensures { λ n. ⌜ ((x u : Schedule) (i : ℕ) → given ≡ amountsOf x i → most ≡ amountsOf u i → foundAt AboveBound n ≡ firstFailing (λ a. leb (x a) (u a)) AboveBound place (map (Provided i) services)) ⌝ }
 {
     if !units::at_least(most.energy, given.energy) {
-        return place;
+        return First::At(place);
     }
     if !units::at_least(most.regulation, given.regulation) {
-        return place + 1;
+        return First::At(place + 1);
     }
     if !units::at_least(most.contingency, given.contingency) {
-        return place + 2;
+        return First::At(place + 2);
     }
     if !units::at_least(most.on_line_short_term, given.on_line_short_term) {
-        return place + 3;
+        return First::At(place + 3);
     }
     if !units::at_least(most.off_line_short_term, given.off_line_short_term) {
-        return place + 4;
+        return First::At(place + 4);
     }
-    0
+    First::None
 }
 
-fn first_provided_above(b: &[u8], q: &[u8], r: usize, z: usize, f: usize) -> u32
+fn first_provided_above(b: &[u8], q: &[u8], r: usize, z: usize, f: usize) -> First
     requires { ⌜ Filing (now b) (now q) r z f ⌝ }
     ensures { λ n. ⌜ foundAt AboveBound n ≡ firstFailing (withinBound (caseOf (now (b .entry))) (certificateOf (now (q .entry)))) AboveBound 5 (across (λ i. map (Provided i) services) (upto r)) ⌝ }
 {
@@ -130,25 +131,25 @@ fn first_provided_above(b: &[u8], q: &[u8], r: usize, z: usize, f: usize) -> u32
         );
         let given = entries::amounts_at(q, r, z, f, i);
         let found = provided_above(given, most, place);
-        if found > 0 {
+        let First::None = found else {
             return found;
-        }
+        };
         place += 5;
         i += 1;
     }
-    0
+    First::None
 }
 
-fn first_above(b: &[u8], q: &[u8], r: usize, z: usize, f: usize) -> u32
+fn first_above(b: &[u8], q: &[u8], r: usize, z: usize, f: usize) -> First
     requires { ⌜ Filing (now b) (now q) r z f ⌝ }
     ensures { λ n. ⌜ foundAt AboveBound n ≡ boundGround (caseOf (now (b .entry))) (certificateOf (now (q .entry))) ⌝ }
 {
     let given = entries::cleared(q, r, z, f);
     let most = curve_bounds(b, r, z, f);
     let found = cleared_above(given, most);
-    if found > 0 {
+    let First::None = found else {
         return found;
-    }
+    };
     first_provided_above(b, q, r, z, f)
 }
 
@@ -186,11 +187,11 @@ fn quantities_stage(b: &[u8], q: &[u8], earlier: Stage) -> Stage
     let Stage::Passed(n) = earlier else {
         return earlier;
     };
-    let place = first_above(b, q, n.resources, n.zones, n.flowgates);
-    if place > 0 {
-        return Stage::Refused(Refusal::AboveBound(place));
-    }
-    Stage::Passed(n)
+    let found = first_above(b, q, n.resources, n.zones, n.flowgates);
+    let First::At(place) = found else {
+        return Stage::Passed(n);
+    };
+    Stage::Refused(Refusal::AboveBound(place))
 }
 
 // 1 to 13: the counts of a case and a certificate that have passed them, or the first ground that holds.

@@ -2,13 +2,15 @@
 use mathlib.Core.Bool.{Bool, true, false}
 use mathlib.Core.List.{List, [], _∷_, _++_}
 use mathlib.Core.Path.{_≡_}
-use Prim.Native.Nat.{ℕ, zero, suc}
+use Prim.Native.Nat.{ℕ, suc}
 use lib.IntN.{pos}
 use lib.ListN.{length, drop}
 use Rattle.arith.specs.Sums.{Each}
 use Rattle.market.specs.declared.Refusal.{Refusal}
 use Rattle.market.specs.declared.Refusal.the-variants.{CaseLength, CaseVersion, Counts, CaseSize, FieldRange, StepRule, LimitPair, CertificateLength, CertificateVersion, CountsDiffer, CertificateSize, PriceRange, AboveBound, RowBroken, BufferShort, NumberList, InputLength}
 use Rattle.market.specs.declared.Valuation.{Valuation}
+use Rattle.market.specs.declared.First.{First}
+use Rattle.market.specs.declared.First.the-variants.{None, At}
 use Rattle.market.specs.declared.CaseAnswer.{CaseAnswer}
 use Rattle.market.specs.declared.CaseAnswer.the-variants as C
 use Rattle.market.specs.declared.Outcome.{Outcome}
@@ -93,10 +95,10 @@ module _ {A : Type 0} where
   firstFailing f r n [] = clear
   firstFailing f r n (x ∷ xs) = elim (f x) [ true ↦ firstFailing f r (suc n) xs | false ↦ holds (r n) ]
 
--- a place, or 0 for none: what a search for the first one answers
-abbrev pub foundAt : (ℕ → Refusal) → ℕ → Finding
-foundAt r zero = clear
-foundAt r (suc p) = holds (r (suc p))
+-- what a search for the first one answers
+abbrev pub foundAt : (ℕ → Refusal) → First → Finding
+foundAt r None = clear
+foundAt r (At p) = holds (r p)
 
 unfoldable pub firstOf : List Finding → Finding
 firstOf [] = clear

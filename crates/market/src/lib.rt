@@ -370,6 +370,12 @@ pub struct Valuation {
     pub gap: Grains,
 }
 
+// What a search for the first one that fails a test answers: its place, counted from 1, or that there is none.
+pub enum First {
+    None,
+    At(u32),
+}
+
 // The answer of the case check.
 pub enum CaseAnswer {
     Valid,

@@ -1,11 +1,13 @@
 -- From the stages' answer to the definitions: past 1 to 14 a certificate stands, its numbers fit, and its answer is 01's.
-use mathlib.Core.Path.{_≡_, refl, sym, _∙_, ap, subst}
+use mathlib.Core.Path.{_≡_, refl, sym, _∙_}
 use mathlib.Core.List.{List, [], _∷_, _++_}
-use Prim.Native.Nat.{ℕ, zero, suc, _+_, _*_, _<_, _≤_}
+use Prim.Native.Nat.{ℕ, _+_, _*_, _<_, _≤_}
 use native.Mathlib.Omega.{arith}
 use lib.IntN.{ℤ}
 use lib.ListN.{length, drop}
 use Rattle.arith.proofs.Lists.{each-split}
+use Rattle.market.specs.declared.First.{First}
+use Rattle.market.specs.declared.First.the-variants.{None, At}
 use Rattle.market.specs.declared.Refusal.{Refusal}
 use Rattle.market.specs.declared.Refusal.the-variants as R
 use Rattle.market.specs.declared.Counts.{Counts}
@@ -39,15 +41,11 @@ use Rattle.prices.specs.Standing.{Standing}
 use Rattle.units.specs.Room.{SumRoom}
 use Rattle.certificates.specs.Grounds13.{groundsTo13}
 use Rattle.certificates.proofs.Passing.{grounds-are, standing}
-use Rattle.outcomes.specs.Checked.{Checked}
+use Rattle.outcomes.specs.Checked.{AcceptedWith, Checked}
 
 -- ---- one ground more than 1 to 13
 abbrev rowGround : List ℕ → List ℕ → Finding
 rowGround b q = firstFailing (rowMet (caseOf b) (certificateOf q)) R.RowBroken 1 (rows (caseOf b))
-
-pub found-row : (n : ℕ) → 0 < n → foundAt R.RowBroken n ≡ holds (R.RowBroken n)
-found-row zero h = absurd (omega arith)
-found-row (suc n) h = refl
 
 module _ (b q : List ℕ) where
   abbrev Stands13 : Counts → Type 0
@@ -58,22 +56,28 @@ module _ (b q : List ℕ) where
   rows-not-reached w h = rw (grounds-are b q, first-stays (groundsTo13 b q) (rowGround b q) w (refused-holds (countsIn (caseOf b)) w (firstOf (groundsTo13 b q)) h))
 
   -- a row is broken
-  pub row-broken : (n : Counts) (row : ℕ) → Stands13 n → 0 < row → foundAt R.RowBroken row ≡ rowGround b q → Refused (R.RowBroken row) ≡ stageOf (countsIn (caseOf b)) (firstOf (grounds b q))
-  row-broken n row h l e = rw (grounds-are b q, first-then (groundsTo13 b q) (rowGround b q) (passed-clear (countsIn (caseOf b)) n (firstOf (groundsTo13 b q)) h .0), ← e, found-row row l)
+  pub row-broken : (n : Counts) (found : First) (row : ℕ) → Stands13 n → found ≡ At row → foundAt R.RowBroken found ≡ rowGround b q → Refused (R.RowBroken row) ≡ stageOf (countsIn (caseOf b)) (firstOf (grounds b q))
+  row-broken n found row h a e = rw (grounds-are b q, first-then (groundsTo13 b q) (rowGround b q) (passed-clear (countsIn (caseOf b)) n (firstOf (groundsTo13 b q)) h .0), ← e, a)
 
   -- none is
-  pub rows-met : (n : Counts) (row : ℕ) → Stands13 n → row ≡ 0 → foundAt R.RowBroken row ≡ rowGround b q → Passed n ≡ stageOf (countsIn (caseOf b)) (firstOf (grounds b q))
-  rows-met n row h z e =
+  pub rows-met : (n : Counts) (found : First) → Stands13 n → found ≡ None → foundAt R.RowBroken found ≡ rowGround b q → Passed n ≡ stageOf (countsIn (caseOf b)) (firstOf (grounds b q))
+  rows-met n found h z e =
       let p = passed-clear (countsIn (caseOf b)) n (firstOf (groundsTo13 b q)) h in
       rw (grounds-are b q, first-then (groundsTo13 b q) (rowGround b q) (p .0), ← e, z, p .1)
 
   -- ---- past 1 to 14
-  pub all-standing : (n : Counts) → stageOf (countsIn (caseOf b)) (firstOf (grounds b q)) ≡ Passed n → Standing b q (n .resources) (n .zones) (n .flowgates)
+  pub accepted-with : (n m : Counts) → stageOf (countsIn (caseOf b)) (firstOf (grounds b q)) ≡ Passed n → m ≡ countsIn (caseOf b) → AcceptedWith b q m
+  accepted-with n m h e = record { none-holds = passed-clear (countsIn (caseOf b)) n (firstOf (grounds b q)) h .0; counts = e }
+
+  pub all-standing : (n : Counts) → AcceptedWith b q n → Standing b q (n .resources) (n .zones) (n .flowgates)
   all-standing n h =
-      let p = passed-clear (countsIn (caseOf b)) n (firstOf (grounds b q)) h in
-      let each = none-holds (grounds b q) (p .0) in
+      let each = none-holds (grounds b q) (h .none-holds) in
       let to13 = each-split (λ g. g ≡ clear) (groundsTo13 b q) (rowGround b q ∷ []) (rw (grounds-are b q) at each) .0 in
-      rw (p .1) (standing b q (all-clear (groundsTo13 b q) to13))
+      rw (h .counts) (standing b q (all-clear (groundsTo13 b q) to13))
+
+  -- a case past them has a head
+  pub has-head : (n : Counts) → stageOf (countsIn (caseOf b)) (firstOf (grounds b q)) ≡ Passed n → 8 ≤ length b
+  has-head n h = let e = all-standing (countsIn (caseOf b)) (accepted-with n (countsIn (caseOf b)) h refl) .prices .case-bytes .size in omega arith
 
   -- the gap of a standing certificate fits
   pub gap-room : {r z f : ℕ} → Standing b q r z f → SumRoom (cost (caseOf b) (certificateOf q .amount)) (bound (caseOf b) (certificateOf q .price))
@@ -82,9 +86,9 @@ module _ (b q : List ℕ) where
       omega (arith, cost-size (caseOf b) h (certificateOf q .amount) (s .bounded), bound-size (caseOf b) h (certificateOf q .price) (price-ranges (caseOf b) (certificateOf q) (s .prices .in-range)))
 
   -- ---- the answer
-  pub accepted : (n : Counts) (r : Outcome) → stageOf (countsIn (caseOf b)) (firstOf (grounds b q)) ≡ Passed n → r ≡ O.Accepted (valuation (caseOf b) (certificateOf q)) → r ≡ outcome b q
+  pub accepted : (n : Counts) (r : Outcome) → AcceptedWith b q n → r ≡ O.Accepted (valuation (caseOf b) (certificateOf q)) → r ≡ outcome b q
   unfolding outcome
-  accepted n r h e = e ∙ rw (passed-clear (countsIn (caseOf b)) n (firstOf (grounds b q)) h .0)
+  accepted n r h e = e ∙ rw (h .none-holds)
 
   pub refused : (w : Refusal) → stageOf (countsIn (caseOf b)) (firstOf (grounds b q)) ≡ Refused w → O.Refused w ≡ outcome b q
   unfolding outcome
@@ -108,19 +112,13 @@ module _ (gs : List Finding) (needed : ℕ) (new old : List ℤ) where
   delivered : firstOf gs ≡ clear → needed ≤ length old → length new ≡ needed → (D.Delivered ≡ deliveryOf all15) × (new ++ drop needed old ≡ bufferAfter all15 new old)
   delivered h l k = let e = long-enough gs needed (length old) h l in (rw e, rw (e, k))
 
--- ---- the counts that passed, and the two lists that a certificate gives
-module _ (b q : List ℕ) (n : Counts) (h : stageOf (countsIn (caseOf b)) (firstOf (grounds b q)) ≡ Passed n) where
-  clear-all : firstOf (grounds b q) ≡ clear
-  clear-all = passed-clear (countsIn (caseOf b)) n (firstOf (grounds b q)) h .0
-
-  counts-are : n ≡ countsIn (caseOf b)
-  counts-are = passed-clear (countsIn (caseOf b)) n (firstOf (grounds b q)) h .1
-
+-- ---- the two lists that an accepted certificate gives
+module _ (b q : List ℕ) (n : Counts) (h : AcceptedWith b q n) where
   prices-needed : n .resources + 4 * n .zones ≡ priceCount (caseOf b)
-  prices-needed = rw counts-are
+  prices-needed = rw (h .counts)
 
   charges-needed : 21 + 4 * n .zones + n .flowgates + 19 * n .resources ≡ chargeCount (caseOf b)
-  charges-needed = rw counts-are
+  charges-needed = rw (h .counts)
 
 module _ (b q : List ℕ) (old : List ℤ) where
   abbrev Prices : Delivery → List ℤ → Type 0
@@ -141,25 +139,25 @@ module _ (b q : List ℕ) (old : List ℤ) where
     unfolding chargeAnswer chargeBuffer chargeGrounds
     charges-refused = numbers-refused (grounds b q) (chargeCount (caseOf b)) (listedCharges b q) old w first-is
 
-  module _ (n : Counts) (h : stageOf (countsIn (caseOf b)) (firstOf (grounds b q)) ≡ Passed n) where
+  module _ (n : Counts) (h : AcceptedWith b q n) where
     pub prices-short : length old < n .resources + 4 * n .zones → Prices (D.Refused R.BufferShort) old
     unfolding priceAnswer priceBuffer priceGrounds
-    prices-short l = numbers-short (grounds b q) (priceCount (caseOf b)) (priceList (caseOf b) (certificateOf q .price)) old (clear-all b q n h) (omega (arith, prices-needed b q n h))
+    prices-short l = numbers-short (grounds b q) (priceCount (caseOf b)) (priceList (caseOf b) (certificateOf q .price)) old (h .none-holds) (omega (arith, prices-needed b q n h))
 
     pub charges-short : length old < 21 + 4 * n .zones + n .flowgates + 19 * n .resources → Charges (D.Refused R.BufferShort) old
     unfolding chargeAnswer chargeBuffer chargeGrounds
-    charges-short l = numbers-short (grounds b q) (chargeCount (caseOf b)) (listedCharges b q) old (clear-all b q n h) (omega (arith, charges-needed b q n h))
+    charges-short l = numbers-short (grounds b q) (chargeCount (caseOf b)) (listedCharges b q) old (h .none-holds) (omega (arith, charges-needed b q n h))
 
     pub prices-written : (out : List ℤ) → n .resources + 4 * n .zones ≤ length old → out ≡ priceList (caseOf b) (certificateOf q .price) ++ drop (priceCount (caseOf b)) old → Prices D.Delivered out
     unfolding priceAnswer priceBuffer priceGrounds
     prices-written out l e =
-        let d = delivered (grounds b q) (priceCount (caseOf b)) (priceList (caseOf b) (certificateOf q .price)) old (clear-all b q n h) (omega (arith, prices-needed b q n h)) (price-count (caseOf b) (certificateOf q .price)) in
+        let d = delivered (grounds b q) (priceCount (caseOf b)) (priceList (caseOf b) (certificateOf q .price)) old (h .none-holds) (omega (arith, prices-needed b q n h)) (price-count (caseOf b) (certificateOf q .price)) in
         (d .0, e ∙ d .1)
 
     pub charges-written : (out : List ℤ) → 21 + 4 * n .zones + n .flowgates + 19 * n .resources ≤ length old → out ≡ listedCharges b q ++ drop (chargeCount (caseOf b)) old → Charges D.Delivered out
     unfolding chargeAnswer chargeBuffer chargeGrounds
     charges-written out l e =
-        let d = delivered (grounds b q) (chargeCount (caseOf b)) (listedCharges b q) old (clear-all b q n h) (omega (arith, charges-needed b q n h)) (charge-count (caseOf b) (certificateOf q .amount) (certificateOf q .price)) in
+        let d = delivered (grounds b q) (chargeCount (caseOf b)) (listedCharges b q) old (h .none-holds) (omega (arith, charges-needed b q n h)) (charge-count (caseOf b) (certificateOf q .amount) (certificateOf q .price)) in
         (d .0, e ∙ d .1)
 
 -- ---- the numbers of success fit
@@ -171,6 +169,6 @@ pub accepted-fits : (b q : List ℕ) (v : Valuation) → outcome b q ≡ O.Accep
 unfolding outcome valuation
 accepted-fits b q v e =
     let a = accepted-is (valuation (caseOf b) (certificateOf q)) v (firstOf (grounds b q)) e in
-    let s = all-standing b q (countsIn (caseOf b)) (ap (stageOf (countsIn (caseOf b))) (a .0)) in
+    let s = all-standing b q (countsIn (caseOf b)) (record { none-holds = a .0; counts = refl }) in
     let fit = sums-fit-in-ranges (caseOf b) (certificateOf q .amount) (certificateOf q .price) (valid-ranges b (s .prices .valid)) (s .bounded) (price-ranges (caseOf b) (certificateOf q) (s .prices .in-range)) in
     (rw (← (a .1)) (fit .cost-fits), rw (← (a .1)) (fit .bound-fits), rw (← (a .1)) (fit .gap-fits))

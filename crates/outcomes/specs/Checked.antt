@@ -3,10 +3,19 @@ use mathlib.Core.List.{List}
 use mathlib.Core.Path.{_≡_}
 use Prim.Native.Nat.{ℕ}
 use lib.IntN.{ℤ}
+use Rattle.market.specs.declared.Counts.{Counts}
 use Rattle.market.specs.declared.Outcome.{Outcome}
 use Rattle.market.specs.declared.Outcome.the-variants.{Accepted}
-use Rattle.market.specs.Outcome.{outcome, valued}
+use Rattle.market.specs.CaseFile.{caseOf}
+use Rattle.market.specs.Records.{countsIn}
+use Rattle.market.specs.Refusals.{clear, firstOf}
+use Rattle.market.specs.Outcome.{grounds, outcome, valued}
 use Rattle.market.specs.Promise.{Promise}
+
+-- none of 1 to 14 holds of the case bytes b and the certificate bytes q, and these are the case's counts
+pub record AcceptedWith (b q : List ℕ) (n : Counts) : Type 0 where
+  pub none-holds : firstOf (grounds b q) ≡ clear
+  pub counts : n ≡ countsIn (caseOf b)
 
 -- of case bytes b, certificate bytes q and the answer r
 pub record Checked (b q : List ℕ) (r : Outcome) : Type 0 where

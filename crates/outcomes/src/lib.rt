@@ -3,6 +3,7 @@
 use cases::Stage;
 use market::Counts;
 use market::Delivery;
+use market::First;
 use market::Outcome;
 use market::Refusal;
 use market::Valuation;
@@ -16,7 +17,7 @@ ghost use Rattle.market.specs.Refusals.{firstOf};
 ghost use Rattle.market.specs.Outcome.{grounds, valuation, priceAnswer, priceBuffer, chargeAnswer, chargeBuffer};
 ghost use Rattle.cases.specs.Stages.{stageOf};
 ghost use Rattle.prices.specs.Standing.{Standing};
-ghost use Rattle.outcomes.specs.Checked.{Checked};
+ghost use Rattle.outcomes.specs.Checked.{AcceptedWith, Checked};
 
 // 1 to 14: the counts of a case and a certificate that have passed them, or the first ground that holds.
 fn rows_stage(b: &[u8], q: &[u8]) -> Stage
@@ -26,11 +27,11 @@ fn rows_stage(b: &[u8], q: &[u8]) -> Stage
     let Stage::Passed(n) = earlier else {
         return earlier;
     };
-    let row = rows::first_broken(b, q, n.resources, n.zones, n.flowgates);
-    if row > 0 {
-        return Stage::Refused(Refusal::RowBroken(row));
-    }
-    Stage::Passed(n)
+    let found = rows::first_broken(b, q, n.resources, n.zones, n.flowgates);
+    let First::At(row) = found else {
+        return Stage::Passed(n);
+    };
+    Stage::Refused(Refusal::RowBroken(row))
 }
 
 // Cost, bound and gap of a certificate that stands.
@@ -49,42 +50,57 @@ pub fn check_certificate(b: &[u8], q: &[u8]) -> Outcome
     ensures { λ r. ⌜ Checked (now (b .entry)) (now (q .entry)) r ⌝ }
 {
     let stage = rows_stage(b, q);
-    match stage {
-        Stage::Passed(n) => valued(b, q, n),
-        Stage::Refused(why) => Outcome::Refused(why),
-    }
+    let Stage::Refused(why) = stage else {
+        let n = cases::counts_at(b);
+        return valued(b, q, n);
+    };
+    Outcome::Refused(why)
 }
 
-// Writes the LMPs and zone prices of an accepted certificate.
+// 15, then the LMPs and zone prices of an accepted certificate.
+fn hand_over_prices(b: &[u8], q: &[u8], n: Counts, out: &mut [i64]) -> Delivery
+    requires { ⌜ AcceptedWith (now b) (now q) n ⌝ }
+    ensures { λ r. ⌜ (r ≡ priceAnswer (now (b .entry)) (now (q .entry)) (length (now (out .entry)))) × (now (out .exit) ≡ priceBuffer (now (b .entry)) (now (q .entry)) (now (out .entry))) ⌝ }
+{
+    if out.len() < n.resources + 4 * n.zones {
+        return Delivery::Refused(Refusal::BufferShort);
+    }
+    delivery::write_prices(b, q, n.resources, n.zones, n.flowgates, out);
+    Delivery::Delivered
+}
+
+// Writes the LMPs and zone prices: 1 to 14, then 15.
 pub fn deliver_prices(b: &[u8], q: &[u8], out: &mut [i64]) -> Delivery
     ensures { λ r. ⌜ (r ≡ priceAnswer (now (b .entry)) (now (q .entry)) (length (now (out .entry)))) × (now (out .exit) ≡ priceBuffer (now (b .entry)) (now (q .entry)) (now (out .entry))) ⌝ }
 {
     let stage = rows_stage(b, q);
-    match stage {
-        Stage::Passed(n) => {
-            if out.len() < n.resources + 4 * n.zones {
-                return Delivery::Refused(Refusal::BufferShort);
-            }
-            delivery::write_prices(b, q, n.resources, n.zones, n.flowgates, out);
-            Delivery::Delivered
-        }
-        Stage::Refused(why) => Delivery::Refused(why),
-    }
+    let Stage::Refused(why) = stage else {
+        let n = cases::counts_at(b);
+        return hand_over_prices(b, q, n, out);
+    };
+    Delivery::Refused(why)
 }
 
-// Writes the charges of an accepted certificate, in charge order.
+// 15, then the charges of an accepted certificate, in charge order.
+fn hand_over_charges(b: &[u8], q: &[u8], n: Counts, out: &mut [i64]) -> Delivery
+    requires { ⌜ AcceptedWith (now b) (now q) n ⌝ }
+    ensures { λ r. ⌜ (r ≡ chargeAnswer (now (b .entry)) (now (q .entry)) (length (now (out .entry)))) × (now (out .exit) ≡ chargeBuffer (now (b .entry)) (now (q .entry)) (now (out .entry))) ⌝ }
+{
+    if out.len() < 21 + 4 * n.zones + n.flowgates + 19 * n.resources {
+        return Delivery::Refused(Refusal::BufferShort);
+    }
+    charges::write_charges(b, q, n.resources, n.zones, n.flowgates, out);
+    Delivery::Delivered
+}
+
+// Writes the charges: 1 to 14, then 15.
 pub fn deliver_charges(b: &[u8], q: &[u8], out: &mut [i64]) -> Delivery
     ensures { λ r. ⌜ (r ≡ chargeAnswer (now (b .entry)) (now (q .entry)) (length (now (out .entry)))) × (now (out .exit) ≡ chargeBuffer (now (b .entry)) (now (q .entry)) (now (out .entry))) ⌝ }
 {
     let stage = rows_stage(b, q);
-    match stage {
-        Stage::Passed(n) => {
-            if out.len() < 21 + 4 * n.zones + n.flowgates + 19 * n.resources {
-                return Delivery::Refused(Refusal::BufferShort);
-            }
-            charges::write_charges(b, q, n.resources, n.zones, n.flowgates, out);
-            Delivery::Delivered
-        }
-        Stage::Refused(why) => Delivery::Refused(why),
-    }
+    let Stage::Refused(why) = stage else {
+        let n = cases::counts_at(b);
+        return hand_over_charges(b, q, n, out);
+    };
+    Delivery::Refused(why)
 }

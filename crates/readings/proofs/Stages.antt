@@ -2,10 +2,10 @@
 use mathlib.Core.Path.{_≡_, refl, sym, _∙_, ap, subst}
 use mathlib.Core.Bool.{Bool, true, false}
 use mathlib.Core.List.{List}
-use Prim.Native.Nat.{ℕ}
+use Prim.Native.Nat.{ℕ, _≤_}
+use native.Mathlib.Omega.{arith}
 use lib.Dec.{T, eqb, eqb→eq}
 use lib.ListN.{length}
-use Rattle.market.specs.declared.Refusal.{Refusal}
 use Rattle.market.specs.declared.Refusal.the-variants as R
 use Rattle.market.specs.declared.Counts.{Counts}
 use Rattle.market.specs.Bytes.{u8At}
@@ -13,13 +13,13 @@ use Rattle.market.specs.CaseFile.{caseOf}
 use Rattle.market.specs.CaseCheck.{lengthRight, versionRight, countsRight}
 use Rattle.market.specs.Certificate.{certificateSize}
 use Rattle.market.specs.Records.{countsIn}
-use Rattle.market.specs.Refusals.{clear, holds, firstOf}
+use Rattle.market.specs.Refusals.{clear, firstOf}
 use Rattle.market.specs.Numbers.{certificateFileGrounds}
 use Rattle.market.proofs.Grounds.{none-holds, unless-clear}
 use Rattle.market.proofs.FileSizes.{case-fills, certificate-fills}
 use Rattle.cases.specs.declared.Stage.the-variants.{Passed, Refused}
 use Rattle.cases.specs.Stages.{stageOf}
-use Rattle.cases.proofs.Passing.{counts-from, passed-clear, refused-holds, passed-bytes}
+use Rattle.cases.proofs.Passing.{counts-from, passed-bytes}
 use Rattle.filings.specs.Form.{sizeIs}
 use Rattle.fields.specs.declared.File.{File}
 use Rattle.fields.specs.declared.File.the-variants.{Case, Certificate}
@@ -94,16 +94,17 @@ past Certificate b h =
       filled = eqb→eq (length b) (certificateSize (u8At b 5) (u8At b 6) (u8At b 7)) size ∙ sym (certificate-fills (u8At b 5) (u8At b 6) (u8At b 7));
     }
 
--- what the stages' answer tells
+-- it has a head
+pub head-in : (file : File) (b : List ℕ) → firstOf (groundsOf file b) ≡ clear → 8 ≤ length b
+head-in Case b h = let e = past Case b h .filled ∙ case-fills (u8At b 5) (u8At b 6) (u8At b 7) in omega arith
+head-in Certificate b h = let e = past Certificate b h .filled ∙ certificate-fills (u8At b 5) (u8At b 6) (u8At b 7) in omega arith
+
+-- with its counts n
 module _ (file : File) (b : List ℕ) where
-  -- with these counts
   abbrev pub Past : Counts → Type 0
   Past n = (firstOf (groundsOf file b) ≡ clear) × (n ≡ countsOf b) × FileBytes file b (n .resources) (n .zones) (n .flowgates)
 
-  pub passed : (n : Counts) → stageOf (countsOf b) (firstOf (groundsOf file b)) ≡ Passed n → Past n
-  passed n h =
-      let p = passed-clear (countsOf b) n (firstOf (groundsOf file b)) h in
-      (p .0, p .1, subst (λ (m : Counts). FileBytes file b (m .resources) (m .zones) (m .flowgates)) (sym (p .1)) (past file b (p .0)))
-
-  pub refused : (w : Refusal) → stageOf (countsOf b) (firstOf (groundsOf file b)) ≡ Refused w → firstOf (groundsOf file b) ≡ holds w
-  refused w h = refused-holds (countsOf b) w (firstOf (groundsOf file b)) h
+  pub passed : (n : Counts) → firstOf (groundsOf file b) ≡ clear → n ≡ countsIn (caseOf b) → Past n
+  passed n h e =
+      let k = e ∙ counts-same b in
+      (h, k, subst (λ (m : Counts). FileBytes file b (m .resources) (m .zones) (m .flowgates)) (sym k) (past file b h))

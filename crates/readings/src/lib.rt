@@ -8,7 +8,7 @@ ghost use mathlib.Core.Path.{_≡_};
 ghost use mathlib.Core.List.{_++_};
 ghost use Prim.Native.Nat.{_≤_};
 ghost use lib.ListN.{length, drop};
-ghost use Rattle.market.specs.Refusals.{firstOf};
+ghost use Rattle.market.specs.Refusals.{clear, firstOf};
 ghost use Rattle.market.specs.Numbers.{numbersAt, certificateFileGrounds, readCase, readCaseBuffer, readCertificate, readCertificateBuffer, writeCase, writeCaseBuffer, writeCertificate, writeCertificateBuffer};
 ghost use Rattle.cases.specs.Stages.{stageOf};
 ghost use Rattle.fields.specs.Layout.{fieldsOf};
@@ -61,13 +61,11 @@ fn read_numbers(
 }
 
 // 15, then the numbers of a file that has passed the other grounds.
-fn hand_over(file: File, b: &[u8], stage: Stage, out: &mut [i64]) -> Transfer
-    requires { ⌜ stage ≡ stageOf (countsOf (now b)) (firstOf (groundsOf file (now b))) ⌝ }
+fn hand_over(file: File, b: &[u8], out: &mut [i64]) -> Transfer
+    requires { ⌜ firstOf (groundsOf file (now b)) ≡ clear ⌝ }
     ensures { λ r. ⌜ (r ≡ readFile file (now (b .entry)) (length (now (out .entry)))) × (now (out .exit) ≡ readFileBuffer file (now (b .entry)) (now (out .entry))) ⌝ }
 {
-    let Stage::Passed(n) = stage else {
-        return cases::transfer_refused(stage);
-    };
+    let n = cases::counts_at(b);
     let resources = n.resources;
     let zones = n.zones;
     let flowgates = n.flowgates;
@@ -84,7 +82,10 @@ pub fn read_case(b: &[u8], out: &mut [i64]) -> Transfer
     ensures { λ r. ⌜ (r ≡ readCase (now (b .entry)) (length (now (out .entry)))) × (now (out .exit) ≡ readCaseBuffer (now (b .entry)) (now (out .entry))) × WrittenBack writeCase writeCaseBuffer (now (b .entry)) (now (out .exit)) r ⌝ }
 {
     let stage = cases::case_stage(b);
-    hand_over(File::Case, b, stage, out)
+    let Stage::Refused(why) = stage else {
+        return hand_over(File::Case, b, out);
+    };
+    Transfer::Refused(why)
 }
 
 // Reads a certificate into numbers: 8, 9, 3, 11, then 15.
@@ -92,5 +93,8 @@ pub fn read_certificate(q: &[u8], out: &mut [i64]) -> Transfer
     ensures { λ r. ⌜ (r ≡ readCertificate (now (q .entry)) (length (now (out .entry)))) × (now (out .exit) ≡ readCertificateBuffer (now (q .entry)) (now (out .entry))) × WrittenBack writeCertificate writeCertificateBuffer (now (q .entry)) (now (out .exit)) r ⌝ }
 {
     let stage = certificate_stage(q);
-    hand_over(File::Certificate, q, stage, out)
+    let Stage::Refused(why) = stage else {
+        return hand_over(File::Certificate, q, out);
+    };
+    Transfer::Refused(why)
 }

@@ -11,6 +11,8 @@ use Rattle.arith.specs.Sums.{sumOf, upto, across}
 use Rattle.arith.proofs.Lists.{length-across, length-upto, across-one}
 use Rattle.arith.proofs.Magnitudes.{abs-mul}
 use Rattle.arith.proofs.Sums.{upto-size}
+use Rattle.market.specs.declared.First.{First}
+use Rattle.market.specs.declared.First.the-variants.{None, At}
 use Rattle.market.specs.declared.Refusal.{Refusal}
 use Rattle.market.specs.Case.{Case, curves}
 use Rattle.market.specs.CaseFile.{caseOf, resourceAt, resourcePlace}
@@ -107,31 +109,31 @@ module _ (t : Row → Bool) (r : ℕ → Refusal) (c : Case) where
       (first-append t r 6 (zoneRows c) (flowgateRows c ++ limitRows c) ∙ rw (zone-rows-long c))))
 
   -- row 1 is broken
-  pub balance-broken : t Balance ≡ false → foundAt r 1 ≡ firstFailing t r 1 (rows c)
-  balance-broken e = found-here r 1 (orElse marketFound (orElse zonesFound networkFound)) (λ z. absurd (omega arith)) (sym (fails t r 1 Balance [] e)) ∙ rows-first
+  pub balance-broken : t Balance ≡ false → foundAt r (At 1) ≡ firstFailing t r 1 (rows c)
+  balance-broken e = found-here r (At 1) 1 (orElse marketFound (orElse zonesFound networkFound)) refl (sym (fails t r 1 Balance [] e)) ∙ rows-first
 
   -- row 1 is met: the market's rows, then the zones', then the others
   module _ (met : t Balance ≡ true) where
-    balance-found : foundAt r 0 ≡ balanceFound
+    balance-found : foundAt r None ≡ balanceFound
     balance-found = sym (passes t r 1 Balance [] met ∙ first-none t r 2)
 
-    pub market-broken : (m : ℕ) → (m ≡ 0 → ⊥) → foundAt r m ≡ marketFound → foundAt r m ≡ firstFailing t r 1 (rows c)
-    market-broken m p h = found-next r 0 m refl balance-found (found-here r m (orElse zonesFound networkFound) p h) ∙ rows-first
+    pub market-broken : (m : First) (p : ℕ) → m ≡ At p → foundAt r m ≡ marketFound → foundAt r m ≡ firstFailing t r 1 (rows c)
+    market-broken m p a h = found-next r None m refl balance-found (found-here r m p (orElse zonesFound networkFound) a h) ∙ rows-first
 
-    module _ (m : ℕ) (none : m ≡ 0) (h : foundAt r m ≡ marketFound) where
-      pub zone-broken : (n : ℕ) → (n ≡ 0 → ⊥) → foundAt r n ≡ zonesFound → foundAt r n ≡ firstFailing t r 1 (rows c)
-      zone-broken n p k = found-next r 0 n refl balance-found (found-next r m n none h (found-here r n networkFound p k)) ∙ rows-first
+    module _ (m : First) (none : m ≡ None) (h : foundAt r m ≡ marketFound) where
+      pub zone-broken : (n : First) (p : ℕ) → n ≡ At p → foundAt r n ≡ zonesFound → foundAt r n ≡ firstFailing t r 1 (rows c)
+      zone-broken n p a k = found-next r None n refl balance-found (found-next r m n none h (found-here r n p networkFound a k)) ∙ rows-first
 
-      pub rest-broken : (n l : ℕ) → n ≡ 0 → foundAt r n ≡ zonesFound → foundAt r l ≡ networkFound → foundAt r l ≡ firstFailing t r 1 (rows c)
-      rest-broken n l e k j = found-next r 0 l refl balance-found (found-next r m l none h (found-next r n l e k j)) ∙ rows-first
+      pub rest-broken : (n l : First) → n ≡ None → foundAt r n ≡ zonesFound → foundAt r l ≡ networkFound → foundAt r l ≡ firstFailing t r 1 (rows c)
+      rest-broken n l e k j = found-next r None l refl balance-found (found-next r m l none h (found-next r n l e k j)) ∙ rows-first
 
   -- the flowgates' rows, numbered from s, and then the resources'
   module _ (s : ℕ) where
     network-first : orElse (firstFailing t r s (flowgateRows c)) (firstFailing t r (s + c .flowgates) (limitRows c)) ≡ firstFailing t r s (flowgateRows c ++ limitRows c)
     network-first = sym (first-append t r s (flowgateRows c) (limitRows c) ∙ rw (flowgate-rows-long c))
 
-    pub flowgate-broken : (n : ℕ) → (n ≡ 0 → ⊥) → foundAt r n ≡ firstFailing t r s (flowgateRows c) → foundAt r n ≡ firstFailing t r s (flowgateRows c ++ limitRows c)
-    flowgate-broken n p h = found-here r n (firstFailing t r (s + c .flowgates) (limitRows c)) p h ∙ network-first
+    pub flowgate-broken : (n : First) (p : ℕ) → n ≡ At p → foundAt r n ≡ firstFailing t r s (flowgateRows c) → foundAt r n ≡ firstFailing t r s (flowgateRows c ++ limitRows c)
+    flowgate-broken n p a h = found-here r n p (firstFailing t r (s + c .flowgates) (limitRows c)) a h ∙ network-first
 
-    pub limit-broken : (n m : ℕ) → n ≡ 0 → foundAt r n ≡ firstFailing t r s (flowgateRows c) → foundAt r m ≡ firstFailing t r (s + c .flowgates) (limitRows c) → foundAt r m ≡ firstFailing t r s (flowgateRows c ++ limitRows c)
+    pub limit-broken : (n m : First) → n ≡ None → foundAt r n ≡ firstFailing t r s (flowgateRows c) → foundAt r m ≡ firstFailing t r (s + c .flowgates) (limitRows c) → foundAt r m ≡ firstFailing t r s (flowgateRows c ++ limitRows c)
     limit-broken n m e h k = found-next r n m e h k ∙ network-first

@@ -6,6 +6,8 @@ use lib.IntN.{_+ℤ_, _-ℤ_}
 use lib.Signed.{leZ}
 use Rattle.market.specs.declared.Amounts.{Amounts}
 use Rattle.market.specs.declared.CurveAmounts.{CurveAmounts}
+use Rattle.market.specs.declared.First.{First}
+use Rattle.market.specs.declared.First.the-variants.{None, At}
 use Rattle.market.specs.declared.Refusal.the-variants.{RowBroken}
 use Rattle.market.specs.CaseFile.{caseOf}
 use Rattle.market.specs.UpperBounds.{energy, Provided}
@@ -15,11 +17,11 @@ use Rattle.market.specs.Refusals.{Finding, firstFailing}
 use Rattle.market.specs.Outcome.{rowMet}
 use Rattle.limits.specs.declared.ResourceLimits.{ResourceLimits}
 
--- the number of the first test that is false, counted from n, or 0 for none
-unfoldable pub firstFalse : ℕ → List Bool → ℕ
-firstFalse n [] = 0
+-- the first test that is false, by its number, counted from n
+unfoldable pub firstFalse : ℕ → List Bool → First
+firstFalse n [] = None
 firstFalse n (true ∷ ts) = firstFalse (suc n) ts
-firstFalse n (false ∷ ts) = n
+firstFalse n (false ∷ ts) = At n
 
 -- what is found of rows, numbered from n on, of the case in b and the certificate in q
 abbrev pub brokenFrom : List ℕ → List ℕ → ℕ → List Row → Finding
@@ -27,7 +29,6 @@ brokenFrom b q n rs = firstFailing (rowMet (caseOf b) (certificateOf q)) RowBrok
 
 -- a row's number, up to so many: no case has more than 1 + 4 + 4 × 8 + 16 + 5 × 64 rows
 pub record Numbered (most n : ℕ) : Type 0 where
-  pub from : 1 ≤ n
   pub to : n ≤ most
 
 -- the energy that a certificate gives each of r resources is at most 2,000,000 kW

@@ -1,5 +1,5 @@
 // The first broken row of a certificate, by families: row 1, the market's reserve rows, each zone's, the flowgates', each
-// resource's own five (01, 'Rows', refusal 14). A family's function answers the number of its first broken row, or 0.
+// resource's own five (01, 'Rows', refusal 14). A family's function answers the number of its first broken row.
 ghost use mathlib.Core.Path.{_≡_};
 ghost use mathlib.Core.List.{[], _∷_, _++_, map};
 ghost use Prim.Native.Nat.{_+_, _*_, _<_};
@@ -23,6 +23,7 @@ ghost use Rattle.rows.specs.Tests.{firstFalse, shortTests, limitTests, E
 use limits::ResourceLimits;
 use market::Amounts;
 use market::CurveAmounts;
+use market::First;
 use market::Kw;
 use market::Watts;
 
@@ -59,27 +60,27 @@ fn balanced(b: &[u8], q: &[u8], r: usize, z: usize, f: usize) -> bool
 // ---- reserve rows
 
 // The first of four rows, numbered from `first`, that has less than it needs.
-fn first_short(have: CurveAmounts, need: CurveAmounts, first: u32) -> u32
+fn first_short(have: CurveAmounts, need: CurveAmounts, first: u32) -> First
     requires { ⌜ Numbered 374 first ⌝ }
     ensures { λ n. ⌜ n ≡ firstFalse first (shortTests have need) ⌝ }
 {
     if !units::at_least(have.operating, need.operating) {
-        return first;
+        return First::At(first);
     }
     if !units::at_least(have.regulating_plus_spinning, need.regulating_plus_spinning) {
-        return first + 1;
+        return First::At(first + 1);
     }
     if !units::at_least(have.regulating, need.regulating) {
-        return first + 2;
+        return First::At(first + 2);
     }
     if !units::at_least(have.short_term, need.short_term) {
-        return first + 3;
+        return First::At(first + 3);
     }
-    0
+    First::None
 }
 
 // Market-wide against the cleared quantities: rows 2 to 5.
-fn market_short(b: &[u8], q: &[u8], r: usize, z: usize, f: usize, have: CurveAmounts) -> u32
+fn market_short(b: &[u8], q: &[u8], r: usize, z: usize, f: usize, have: CurveAmounts) -> First
     requires { ⌜ Standing (now b) (now q) r z f × (have ≡ marketTotal (now b) (now q) r) ⌝ }
     ensures { λ n. ⌜ foundAt RowBroken n ≡ brokenFrom (now (b .entry)) (now (q .entry)) 2 marketRows ⌝ }
 {
@@ -111,7 +112,7 @@ fn zone_short(
     zone: usize,
     have: CurveAmounts,
     first: u32,
-) -> u32
+) -> First
     requires { ⌜ Standing (now b) (now q) r z f × ((zone < z) × Numbered 374 first) ⌝ }
     requires { ⌜ have ≡ zoneTotal (now b) (now q) r zone ⌝ }
     ensures { λ n. ⌜ foundAt RowBroken n ≡ brokenFrom (now (b .entry)) (now (q .entry)) first (map (Zone zone) curves) ⌝ }
@@ -120,7 +121,7 @@ fn zone_short(
     first_short(have, need, first)
 }
 
-fn zones_short(b: &[u8], q: &[u8], r: usize, z: usize, f: usize, have: [CurveAmounts; 8]) -> u32
+fn zones_short(b: &[u8], q: &[u8], r: usize, z: usize, f: usize, have: [CurveAmounts; 8]) -> First
     requires { ⌜ Standing (now b) (now q) r z f × (have ≡ zoneTotals (now b) (now q) r) ⌝ }
     ensures { λ n. ⌜ foundAt RowBroken n ≡ brokenFrom (now (b .entry)) (now (q .entry)) 6 (zoneRows (caseOf (now (b .entry)))) ⌝ }
 {
@@ -128,13 +129,13 @@ fn zones_short(b: &[u8], q: &[u8], r: usize, z: usize, f: usize, have: [CurveAmo
     let mut zone: usize = 0;
     while zone < z {
         let n = zone_short(b, q, r, z, f, zone, have[zone], row);
-        if n != 0 {
+        let First::None = n else {
             return n;
-        }
+        };
         row += 4;
         zone += 1;
     }
-    0
+    First::None
 }
 
 // ---- flowgates' rows
@@ -157,7 +158,7 @@ pub fn flow(b: &[u8], q: &[u8], r: usize, z: usize, f: usize, g: usize) -> Watts
 }
 
 // Its row, numbered `row`: at most the limit flows.
-fn flowgate_over(b: &[u8], q: &[u8], r: usize, z: usize, f: usize, g: usize, row: u32) -> u32
+fn flowgate_over(b: &[u8], q: &[u8], r: usize, z: usize, f: usize, g: usize, row: u32) -> First
     requires { ⌜ Standing (now b) (now q) r z f × ((g < f) × Numbered 374 row) ⌝ }
     ensures { λ n. ⌜ foundAt RowBroken n ≡ brokenFrom (now (b .entry)) (now (q .entry)) row (Flowgate g ∷ []) ⌝ }
 {
@@ -165,12 +166,12 @@ fn flowgate_over(b: &[u8], q: &[u8], r: usize, z: usize, f: usize, g: usize, row
     let limit = readers::flowgate_limit_at(b, r, z, f, g);
     let most = units::in_watts(limit);
     if units::watts_at_least(most, flows) {
-        return 0;
+        return First::None;
     }
-    row
+    First::At(row)
 }
 
-fn flowgates_over(b: &[u8], q: &[u8], r: usize, z: usize, f: usize, first: u32) -> u32
+fn flowgates_over(b: &[u8], q: &[u8], r: usize, z: usize, f: usize, first: u32) -> First
     requires { ⌜ Standing (now b) (now q) r z f × Numbered 54 first ⌝ }
     ensures { λ n. ⌜ foundAt RowBroken n ≡ brokenFrom (now (b .entry)) (now (q .entry)) first (flowgateRows (caseOf (now (b .entry)))) ⌝ }
 {
@@ -178,46 +179,46 @@ fn flowgates_over(b: &[u8], q: &[u8], r: usize, z: usize, f: usize, first: u32) 
     let mut g: usize = 0;
     while g < f {
         let n = flowgate_over(b, q, r, z, f, g, row);
-        if n != 0 {
+        let First::None = n else {
             return n;
-        }
+        };
         row += 1;
         g += 1;
     }
-    0
+    First::None
 }
 
 // ---- each resource's own rows
 
 // The first of five rows, numbered from `first`, that amounts break: e+g+c ≤ MAX, e+s ≤ MAX, e-g ≥ MIN, e ≤ HI, e ≥ LO.
-fn first_outside(a: Amounts, l: ResourceLimits, first: u32) -> u32
+fn first_outside(a: Amounts, l: ResourceLimits, first: u32) -> First
     requires { ⌜ SmallAmounts a × Numbered 374 first ⌝ }
     ensures { λ n. ⌜ n ≡ firstFalse first (limitTests a l) ⌝ }
 {
     let up = units::kw_sum(a.energy, a.regulation);
     let with_reserve = units::kw_sum(up, a.contingency);
     if !units::at_least(l.max, with_reserve) {
-        return first;
+        return First::At(first);
     }
     let with_short_term = units::kw_sum(a.energy, a.on_line_short_term);
     if !units::at_least(l.max, with_short_term) {
-        return first + 1;
+        return First::At(first + 1);
     }
     let down = units::kw_difference(a.energy, a.regulation);
     if !units::at_least(down, l.min) {
-        return first + 2;
+        return First::At(first + 2);
     }
     if !units::at_least(l.high, a.energy) {
-        return first + 3;
+        return First::At(first + 3);
     }
     if !units::at_least(a.energy, l.low) {
-        return first + 4;
+        return First::At(first + 4);
     }
-    0
+    First::None
 }
 
 // The five rows of resource i, numbered from `first`.
-fn resource_outside(b: &[u8], q: &[u8], r: usize, z: usize, f: usize, i: usize, first: u32) -> u32
+fn resource_outside(b: &[u8], q: &[u8], r: usize, z: usize, f: usize, i: usize, first: u32) -> First
     requires { ⌜ Standing (now b) (now q) r z f × ((i < r) × Numbered 374 first) ⌝ }
     ensures { λ n. ⌜ foundAt RowBroken n ≡ brokenFrom (now (b .entry)) (now (q .entry)) first (map (Limited i) limits) ⌝ }
 {
@@ -227,7 +228,7 @@ fn resource_outside(b: &[u8], q: &[u8], r: usize, z: usize, f: usize, i: usize, 
     first_outside(a, own, first)
 }
 
-fn resources_outside(b: &[u8], q: &[u8], r: usize, z: usize, f: usize, first: u32) -> u32
+fn resources_outside(b: &[u8], q: &[u8], r: usize, z: usize, f: usize, first: u32) -> First
     requires { ⌜ Standing (now b) (now q) r z f × Numbered 54 first ⌝ }
     ensures { λ n. ⌜ foundAt RowBroken n ≡ brokenFrom (now (b .entry)) (now (q .entry)) first (limitRows (caseOf (now (b .entry)))) ⌝ }
 {
@@ -235,47 +236,47 @@ fn resources_outside(b: &[u8], q: &[u8], r: usize, z: usize, f: usize, first: u3
     let mut i: usize = 0;
     while i < r {
         let n = resource_outside(b, q, r, z, f, i, row);
-        if n != 0 {
+        let First::None = n else {
             return n;
-        }
+        };
         row += 5;
         i += 1;
     }
-    0
+    First::None
 }
 
 // ---- all rows
 
 // The first broken row of a flowgate or of a resource.
-fn network_broken(b: &[u8], q: &[u8], r: usize, z: usize, f: usize) -> u32
+fn network_broken(b: &[u8], q: &[u8], r: usize, z: usize, f: usize) -> First
     requires { ⌜ Standing (now b) (now q) r z f ⌝ }
     ensures { λ n. ⌜ foundAt RowBroken n ≡ brokenFrom (now (b .entry)) (now (q .entry)) (6 + z * 4) (flowgateRows (caseOf (now (b .entry))) ++ limitRows (caseOf (now (b .entry)))) ⌝ }
 {
     let first = 6 + z as u32 * 4;
     let n = flowgates_over(b, q, r, z, f, first);
-    if n != 0 {
+    let First::None = n else {
         return n;
-    }
+    };
     resources_outside(b, q, r, z, f, first + f as u32)
 }
 
 // The first broken row of all.
-pub fn first_broken(b: &[u8], q: &[u8], r: usize, z: usize, f: usize) -> u32
+pub fn first_broken(b: &[u8], q: &[u8], r: usize, z: usize, f: usize) -> First
     requires { ⌜ Standing (now b) (now q) r z f ⌝ }
     ensures { λ n. ⌜ foundAt RowBroken n ≡ firstFailing (rowMet (caseOf (now (b .entry))) (certificateOf (now (q .entry)))) RowBroken 1 (rows (caseOf (now (b .entry)))) ⌝ }
 {
     if !balanced(b, q, r, z, f) {
-        return 1;
+        return First::At(1);
     }
     let have = reserves::totals(b, q, r, z, f);
     let market = market_short(b, q, r, z, f, have.market);
-    if market != 0 {
+    let First::None = market else {
         return market;
-    }
+    };
     let in_zones = have.zones;
     let zones = zones_short(b, q, r, z, f, in_zones);
-    if zones != 0 {
+    let First::None = zones else {
         return zones;
-    }
+    };
     network_broken(b, q, r, z, f)
 }

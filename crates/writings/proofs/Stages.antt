@@ -5,7 +5,7 @@ use mathlib.Core.Bool.{true, false, _&&_}
 use mathlib.Core.List.{List, [], _∷_, _++_}
 use Prim.Native.Nat.{ℕ, _<_, _≤_}
 use native.Mathlib.Omega.{arith}
-use lib.Dec.{T}
+use lib.Dec.{T, leb, leb→le}
 use lib.IntN.{ℤ, pos, negsuc, natAbs}
 use lib.ListN.{length, getD}
 use lib.Signed.{leZ}
@@ -75,18 +75,18 @@ module _ (file : File) (vs : List ℤ) where
   unfolding listGrounds firstOf
   by-counts l h = rw (le-leb 3 (length vs) l, h)
 
-  module _ (r z f : ℕ) (er : r ≡ countIn vs 0) (ez : z ≡ countIn vs 1) (ef : f ≡ countIn vs 2) where
-    fit-is : numbersFit (fieldsOf file r z f) vs ≡ numbersFit (fieldsFor (fieldsOf file) vs) vs
+  module _ (n : Counts) (e : n ≡ countsOf vs) where
+    fit-is : numbersFit (fieldsOf file (n .resources) (n .zones) (n .flowgates)) vs ≡ numbersFit (fieldsFor (fieldsOf file) vs) vs
     unfolding fieldsFor
-    fit-is = rw (er, ez, ef)
+    fit-is = rw e
 
-    pub by-numbers : 3 ≤ length vs → countsInRange vs ≡ true → numbersFit (fieldsOf file r z f) vs ≡ false → Refused R.NumberList ≡ stageOf (countsOf vs) (firstOf (listGrounds (fieldsOf file) vs))
+    pub by-numbers : 3 ≤ length vs → countsInRange vs ≡ true → numbersFit (fieldsOf file (n .resources) (n .zones) (n .flowgates)) vs ≡ false → Refused R.NumberList ≡ stageOf (countsOf vs) (firstOf (listGrounds (fieldsOf file) vs))
     unfolding listGrounds firstOf
     by-numbers l h k = rw (le-leb 3 (length vs) l, h, sym fit-is ∙ k)
 
-    pub by-none : 3 ≤ length vs → countsInRange vs ≡ true → numbersFit (fieldsOf file r z f) vs ≡ true → Passed (record { resources = r; zones = z; flowgates = f }) ≡ stageOf (countsOf vs) (firstOf (listGrounds (fieldsOf file) vs))
+    pub by-none : 3 ≤ length vs → countsInRange vs ≡ true → numbersFit (fieldsOf file (n .resources) (n .zones) (n .flowgates)) vs ≡ true → Passed n ≡ stageOf (countsOf vs) (firstOf (listGrounds (fieldsOf file) vs))
     unfolding listGrounds firstOf
-    by-none l h k = rw (le-leb 3 (length vs) l, h, sym fit-is ∙ k, er, ez, ef)
+    by-none l h k = rw (le-leb 3 (length vs) l, h, sym fit-is ∙ k, e)
 
 -- ---- a list past them
 listed : (file : File) (vs : List ℤ) → firstOf (listGrounds (fieldsOf file) vs) ≡ clear → Listed file vs (countIn vs 0) (countIn vs 1) (countIn vs 2)
@@ -135,13 +135,15 @@ module _ (file : File) (vs : List ℤ) where
   pub list-refused : (w : Refusal) → stageOf (countsOf vs) (firstOf (listGrounds (fieldsOf file) vs)) ≡ Refused w → Refused w ≡ stageOf (countsOf vs) (firstOf (groundsOf file vs))
   list-refused w h = sym (ap (stageOf (countsOf vs)) (first-earlier (listGrounds (fieldsOf file) vs) _ w (refused-holds (countsOf vs) w (firstOf (listGrounds (fieldsOf file) vs)) h)))
 
-  pub passed : (n : Counts) → stageOf (countsOf vs) (firstOf (groundsOf file vs)) ≡ Passed n → (firstOf (groundsOf file vs) ≡ clear) × Listed file vs (n .resources) (n .zones) (n .flowgates)
-  passed n h =
-      let p = passed-clear (countsOf vs) n (firstOf (groundsOf file vs)) h in
-      (p .0, subst (λ (m : Counts). Listed file vs (m .resources) (m .zones) (m .flowgates)) (sym (p .1)) (listed file vs (earlier-clear (listGrounds (fieldsOf file) vs) _ (p .0))))
+  -- a list past all but 15, with its counts n
+  pub passed : (n : Counts) → firstOf (groundsOf file vs) ≡ clear → n ≡ countsOf vs → Listed file vs (n .resources) (n .zones) (n .flowgates)
+  passed n h e = subst (λ (m : Counts). Listed file vs (m .resources) (m .zones) (m .flowgates)) (sym e) (listed file vs (earlier-clear (listGrounds (fieldsOf file) vs) _ h))
 
-  pub refused : (w : Refusal) → stageOf (countsOf vs) (firstOf (groundsOf file vs)) ≡ Refused w → firstOf (groundsOf file vs) ≡ holds w
-  refused w h = refused-holds (countsOf vs) w (firstOf (groundsOf file vs)) h
+  pub has-counts : firstOf (groundsOf file vs) ≡ clear → (3 ≤ length vs) × (countsInRange vs ≡ true)
+  unfolding listGrounds
+  has-counts h =
+      let clear = none-holds (listGrounds (fieldsOf file) vs) (earlier-clear (listGrounds (fieldsOf file) vs) _ h) in
+      (leb→le 3 (length vs) (unless-clear (leb 3 (length vs)) R.NumberList (clear .0)), is-true (countsInRange vs) (unless-clear (countsInRange vs) R.Counts (clear .1 .0)))
 
 -- ---- the case file of a list past 16, 3, 16
 -- its counts are the list's first three numbers

@@ -13,7 +13,7 @@ ghost use Prim.Native.Nat.{_+_, _<_, _≤_};
 ghost use lib.ListN.{length, drop, getD};
 ghost use lib.IntN.{pos};
 ghost use lib.Signed.{leZ};
-ghost use Rattle.market.specs.Refusals.{firstOf};
+ghost use Rattle.market.specs.Refusals.{clear, firstOf};
 ghost use Rattle.market.specs.Numbers.{fieldWidth, fieldBytes, bytesOf, numbersFit, fileOf, countIn, countsInRange, listGrounds, writeCase, writeCaseBuffer, writeCertificate, writeCertificateBuffer, readCase, readCaseBuffer, readCertificate, readCertificateBuffer};
 ghost use Rattle.wire.specs.Within.{Within, written};
 ghost use Rattle.cases.specs.Stages.{stageOf};
@@ -109,6 +109,18 @@ fn count_in(v: &[i64], k: usize) -> usize
     v[k] as usize
 }
 
+// R, Z and F that have passed 3.
+fn counts_in(v: &[i64]) -> Counts
+    requires { ⌜ (3 ≤ length (now v)) × (countsInRange (now v) ≡ true) ⌝ }
+    ensures { λ n. ⌜ n ≡ countsOf (now (v .entry)) ⌝ }
+{
+    Counts {
+        resources: count_in(v, 0),
+        zones: count_in(v, 1),
+        flowgates: count_in(v, 2),
+    }
+}
+
 fn numbers_fit(file: File, v: &[i64], resources: usize, zones: usize, flowgates: usize) -> bool
     requires { ⌜ (resources ≤ 64) × (zones ≤ 8) × (flowgates ≤ 16) ⌝ }
     ensures { λ t. ⌜ t ≡ numbersFit (fieldsOf file resources zones flowgates) (now (v .entry)) ⌝ }
@@ -138,17 +150,11 @@ fn list_stage(file: File, v: &[i64]) -> Stage
     if !counts_in_range(v) {
         return Stage::Refused(Refusal::Counts);
     }
-    let resources = count_in(v, 0);
-    let zones = count_in(v, 1);
-    let flowgates = count_in(v, 2);
-    if !numbers_fit(file, v, resources, zones, flowgates) {
+    let n = counts_in(v);
+    if !numbers_fit(file, v, n.resources, n.zones, n.flowgates) {
         return Stage::Refused(Refusal::NumberList);
     }
-    Stage::Passed(Counts {
-        resources,
-        zones,
-        flowgates,
-    })
+    Stage::Passed(n)
 }
 
 // ---- 5, 6, 7
@@ -185,13 +191,11 @@ fn case_stage(v: &[i64]) -> Stage
 
 // ---- the operations
 // 15, then the file of numbers that have passed the other grounds.
-fn hand_over(file: File, v: &[i64], stage: Stage, out: &mut [u8]) -> Transfer
-    requires { ⌜ stage ≡ stageOf (countsOf (now v)) (firstOf (groundsOf file (now v))) ⌝ }
+fn hand_over(file: File, v: &[i64], out: &mut [u8]) -> Transfer
+    requires { ⌜ firstOf (groundsOf file (now v)) ≡ clear ⌝ }
     ensures { λ r. ⌜ (r ≡ writeFile file (now (v .entry)) (length (now (out .entry)))) × (now (out .exit) ≡ writeFileBuffer file (now (v .entry)) (now (out .entry))) ⌝ }
 {
-    let Stage::Passed(n) = stage else {
-        return cases::transfer_refused(stage);
-    };
+    let n = counts_in(v);
     let resources = n.resources;
     let zones = n.zones;
     let flowgates = n.flowgates;
@@ -208,7 +212,10 @@ pub fn write_case(v: &[i64], out: &mut [u8]) -> Transfer
     ensures { λ r. ⌜ (r ≡ writeCase (now (v .entry)) (length (now (out .entry)))) × (now (out .exit) ≡ writeCaseBuffer (now (v .entry)) (now (out .entry))) × ReadBack readCase readCaseBuffer (now (v .entry)) (now (out .exit)) r ⌝ }
 {
     let stage = case_stage(v);
-    hand_over(File::Case, v, stage, out)
+    let Stage::Refused(why) = stage else {
+        return hand_over(File::Case, v, out);
+    };
+    Transfer::Refused(why)
 }
 
 // Writes a certificate from numbers: 16, 3, 16, then 15.
@@ -216,5 +223,8 @@ pub fn write_certificate(v: &[i64], out: &mut [u8]) -> Transfer
     ensures { λ r. ⌜ (r ≡ writeCertificate (now (v .entry)) (length (now (out .entry)))) × (now (out .exit) ≡ writeCertificateBuffer (now (v .entry)) (now (out .entry))) × ReadBack readCertificate readCertificateBuffer (now (v .entry)) (now (out .exit)) r ⌝ }
 {
     let stage = list_stage(File::Certificate, v);
-    hand_over(File::Certificate, v, stage, out)
+    let Stage::Refused(why) = stage else {
+        return hand_over(File::Certificate, v, out);
+    };
+    Transfer::Refused(why)
 }

@@ -1,8 +1,8 @@
 -- `certificates::first_above` meets its contract. Assumes nothing.
 use mathlib.Core.Path.{_≡_}
 use mathlib.Core.List.{map}
-use native.Mathlib.Omega.{arith}
 use borrow.Author.Needs.{needs}
+use Rattle.market.specs.declared.First.the-variants.{None, At}
 use Rattle.market.specs.declared.Refusal.the-variants.{AboveBound}
 use Rattle.market.specs.CaseFile.{caseOf}
 use Rattle.market.specs.Case.{curves}
@@ -20,10 +20,18 @@ found : (c : tie.After-cleared-above) → foundAt AboveBound (c .cleared-above .
 found c = c .cleared-above .ensures (certificateOf (c .before .before .before .before .before .args .q .now) .amount) (upperBound (caseOf (c .before .before .before .before .before .args .b .now))) (c .before .before .cleared .ensures) (c .before .curve-bounds .ensures)
 
 returns : tie.Need-returns
-returns c = among-cleared (withinBound (caseOf (c .before .before .before .before .before .before .args .b .now)) (certificateOf (c .before .before .before .before .before .before .args .q .now))) (caseOf (c .before .before .before .before .before .before .args .b .now)) (c .before .cleared-above .result) (found (c .before)) (omega arith)
+returns c =
+    let above = c .before .before in
+    let s = above .before .before .before .before .before in
+    let at : above .cleared-above .result ≡ At (c .enum-told2 .given .0 .0) = cc in
+    among-cleared (withinBound (caseOf (s .args .b .now)) (certificateOf (s .args .q .now))) (caseOf (s .args .b .now)) (above .cleared-above .result) _ (found above) at
 
 returns-2 : tie.Need-returns-2
-returns-2 c = among-provided (withinBound (caseOf (c .before .before .before .before .before .before .before .args .b .now)) (certificateOf (c .before .before .before .before .before .before .before .args .q .now))) (caseOf (c .before .before .before .before .before .before .before .args .b .now)) _ (c .before .before .cleared-above .result) (c .first-provided-above .result) (resources-is (c .before .before .before .before .before .before .before .pre .case-bytes)) (found (c .before .before)) (omega arith) (c .first-provided-above .ensures)
+returns-2 c =
+    let above = c .before .before .before in
+    let s = above .before .before .before .before .before in
+    let none : above .cleared-above .result ≡ None = cc in
+    among-provided (withinBound (caseOf (s .args .b .now)) (certificateOf (s .args .q .now))) (caseOf (s .args .b .now)) _ (above .cleared-above .result) (c .first-provided-above .result) (resources-is (s .pre .case-bytes)) (found above) none (c .first-provided-above .ensures)
 
 pub first-above-spec : {M : Type 1} → statement M
 first-above-spec =
@@ -32,6 +40,8 @@ first-above-spec =
     (λ c κs. search needs)
     (λ c κs. search needs)
     (λ c κs. search needs)
+    (λ c. search needs)
+    (λ c. search needs)
     returns
     (λ c κs. search needs)
     returns-2)

@@ -48,7 +48,7 @@ amounts-at-requires : tie.Need-amounts-at-requires Inv-loop μ-loop
 amounts-at-requires c κs = (c .before .before .before .before .before .before .before .before .pre .certificate-bytes, omega arith)
 
 provided-above-requires : tie.Need-provided-above-requires Inv-loop μ-loop
-provided-above-requires c κs = (omega arith, omega (arith, c .before .before .before .before .before .before .before .before .before .pre .case-bytes .most-resources))
+provided-above-requires c κs = omega (arith, c .before .before .before .before .before .before .before .before .before .pre .case-bytes .most-resources)
 
 -- what is found among a resource's five
 found : (c : tie.After-provided-above Inv-loop μ-loop) →
@@ -65,21 +65,21 @@ found c =
 
 returns : tie.Need-returns Inv-loop μ-loop
 returns c =
-    let s = c .before .before .before .before .before .before .before .before .before .before .before in
-    let l = c .before .before .before .before .before .before .before .loop in
-    found-here (withinBound (caseOf (s .args .b .now)) (certificateOf (s .args .q .now))) _ (l .i) (l .place) (c .before .provided-above .result) (omega arith) (l .inv .1) (l .inv .2) (found (c .before)) (omega arith)
+    let s = c .before .before .before .before .before .before .before .before .before .before .before .before in
+    let l = c .before .before .before .before .before .before .before .before .loop in
+    found-here (withinBound (caseOf (s .args .b .now)) (certificateOf (s .args .q .now))) _ (l .i) (l .place) (c .before .before .provided-above .result) (c .enum-told2 .given .0 .0) (omega arith) (l .inv .1) (l .inv .2) (found (c .before .before)) cc
 
 add-place : tie.Need-add-place Inv-loop μ-loop
-add-place c = omega (arith, c .before .before .before .before .before .before .before .before .before .before .before .pre .case-bytes .most-resources)
+add-place c = omega (arith, c .before .before .before .before .before .before .before .before .before .before .before .before .pre .case-bytes .most-resources)
 
 add-i : tie.Need-add-i Inv-loop μ-loop
-add-i c = omega (arith, c .before .before .before .before .before .before .before .before .before .before .before .pre .case-bytes .most-resources)
+add-i c = omega (arith, c .before .before .before .before .before .before .before .before .before .before .before .before .pre .case-bytes .most-resources)
 
 loop-again : tie.Need-loop-again Inv-loop μ-loop
 loop-again c =
-    let s = c .before .before .before .before .before .before .before .before .before .before .before in
-    let l = c .before .before .before .before .before .before .before .loop in
-    (omega arith, omega arith, still-none (withinBound (caseOf (s .args .b .now)) (certificateOf (s .args .q .now))) (l .i) (l .place) (c .before .provided-above .result) (l .inv .1) (l .inv .2) (found (c .before)) (omega arith))
+    let s = c .before .before .before .before .before .before .before .before .before .before .before .before in
+    let l = c .before .before .before .before .before .before .before .before .loop in
+    (omega arith, omega arith, still-none (withinBound (caseOf (s .args .b .now)) (certificateOf (s .args .q .now))) (l .i) (l .place) (c .before .before .provided-above .result) (l .inv .1) (l .inv .2) (found (c .before .before)) cc)
 
 returns-2 : tie.Need-returns-2 Inv-loop μ-loop
 returns-2 c = let e : c .before .loop .i ≡ c .before .before .before .before .before .args .r = omega arith in rw (← e) (sym (c .before .loop .inv .2))
@@ -97,6 +97,8 @@ first-provided-above-spec =
     service-bounds-requires
     amounts-at-requires
     provided-above-requires
+    (λ c. search needs)
+    (λ c. search needs)
     returns
     add-place
     add-i

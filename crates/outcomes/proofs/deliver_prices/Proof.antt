@@ -1,33 +1,42 @@
-use Rattle.outcomes.proofs.Passing.{all-standing, prices-refused, prices-short, prices-written}
-use Rattle.cases.specs.Stages.{stageOf}
-use Rattle.cases.specs.declared.Stage.the-variants.{Passed, Refused}
-use Rattle.market.specs.Outcome.{grounds}
-use Rattle.market.specs.Refusals.{firstOf}
-use Rattle.market.specs.Records.{countsIn}
-use Rattle.market.specs.CaseFile.{caseOf}
-use native.Mathlib.Omega.{arith}
+-- `outcomes::deliver_prices` meets its contract. Assumes nothing.
 use mathlib.Core.Path.{_≡_}
+use native.Mathlib.Omega.{arith}
 use borrow.Author.Needs.{needs}
+use Rattle.market.specs.CaseFile.{caseOf}
+use Rattle.market.specs.Outcome.{grounds}
+use Rattle.market.specs.Records.{countsIn}
+use Rattle.market.specs.Refusals.{firstOf}
+use Rattle.cases.specs.declared.Stage.the-variants.{Passed, Refused}
+use Rattle.cases.specs.Stages.{stageOf}
+use Rattle.outcomes.specs.Checked.{AcceptedWith}
+use Rattle.outcomes.proofs.Passing.{accepted-with, has-head, prices-refused}
 use Rattle.outcomes.proofs.deliver_prices.Statement.{statement}
 use Rattle.outcomes.proofs.deliver_prices.Tie as tie
 
-mul-if1 : tie.Need-mul-if1
-mul-if1 c = let s = c .before .before .before .before .before .before .before in let n = c .before .before .stage .given .0 .0 in let h : stageOf (countsIn (caseOf (s .args .b .now))) (firstOf (grounds (s .args .b .now) (s .args .q .now))) ≡ Passed n = cc in let z = all-standing (s .args .b .now) (s .args .q .now) n h in omega (arith, z .prices .case-bytes .most-zones)
+counts-at-requires : tie.Need-counts-at-requires
+counts-at-requires c κs =
+    let s = c .before .before .before .before .before in
+    let h : stageOf (countsIn (caseOf (s .args .b .now))) (firstOf (grounds (s .args .b .now) (s .args .q .now))) ≡ Passed (c .enum-told .given .0 .0) = cc in
+    omega (arith, has-head (s .args .b .now) (s .args .q .now) _ h)
 
-add-if1 : tie.Need-add-if1
-add-if1 c = let s = c .before .before .before .before .before .before .before .before in let n = c .before .before .before .stage .given .0 .0 in let h : stageOf (countsIn (caseOf (s .args .b .now))) (firstOf (grounds (s .args .b .now) (s .args .q .now))) ≡ Passed n = cc in let z = all-standing (s .args .b .now) (s .args .q .now) n h in omega (arith, z .prices .case-bytes .most-zones, z .prices .case-bytes .most-resources)
+-- past 1 to 14, with the counts that are read
+passed : (c : tie.After-counts-at) → let s = c .before .before .before .before .before .before in AcceptedWith (s .args .b .now) (s .args .q .now) (c .counts-at .result)
+passed c =
+    let s = c .before .before .before .before .before .before in
+    let h : stageOf (countsIn (caseOf (s .args .b .now))) (firstOf (grounds (s .args .b .now) (s .args .q .now))) ≡ Passed (c .before .enum-told .given .0 .0) = cc in
+    accepted-with (s .args .b .now) (s .args .q .now) _ _ h (c .counts-at .ensures)
+
+hand-over-prices-requires : tie.Need-hand-over-prices-requires
+hand-over-prices-requires c κs = passed (c .before)
 
 returns : tie.Need-returns
-returns c = let s = c .before .before .before .before .before .before .before .before .before in let n = c .before .before .before .before .stage .given .0 .0 in let h : stageOf (countsIn (caseOf (s .args .b .now))) (firstOf (grounds (s .args .b .now) (s .args .q .now))) ≡ Passed n = cc in prices-short (s .args .b .now) (s .args .q .now) (s .args .out .now) n h (c .if1 .taken)
-
-write-prices-requires : tie.Need-write-prices-requires
-write-prices-requires c κs = let s = c .before .before .before .before .before .before .before .before .before .before in let n = c .before .before .before .before .before .stage .given .0 .0 in let h : stageOf (countsIn (caseOf (s .args .b .now))) (firstOf (grounds (s .args .b .now) (s .args .q .now))) ≡ Passed n = cc in (all-standing (s .args .b .now) (s .args .q .now) n h, omega arith)
+returns c = c .before .hand-over-prices .ensures
 
 returns-2 : tie.Need-returns-2
-returns-2 c = let s = c .before .before .before .before .before .before .before .before .before .before .before .before in let n = c .before .before .before .before .before .before .before .stage .given .0 .0 in let h : stageOf (countsIn (caseOf (s .args .b .now))) (firstOf (grounds (s .args .b .now) (s .args .q .now))) ≡ Passed n = cc in prices-written (s .args .b .now) (s .args .q .now) (s .args .out .now) n h _ (omega arith) (c .before .write-prices .ensures)
-
-returns-3 : tie.Need-returns-3
-returns-3 c = let s = c .before .before .before .before .before .before in let h : stageOf (countsIn (caseOf (s .args .b .now))) (firstOf (grounds (s .args .b .now) (s .args .q .now))) ≡ Refused (c .before .stage2 .given .0 .0) = cc in prices-refused (s .args .b .now) (s .args .q .now) (s .args .out .now) _ h
+returns-2 c =
+    let s = c .before .before .before .before .before .before in
+    let h : stageOf (countsIn (caseOf (s .args .b .now))) (firstOf (grounds (s .args .b .now) (s .args .q .now))) ≡ Refused (c .before .stage .given .0 .0) = cc in
+    prices-refused (s .args .b .now) (s .args .q .now) (s .args .out .now) _ h
 
 pub deliver-prices-spec : {M : Type 1} → statement M
 deliver-prices-spec =
@@ -35,11 +44,9 @@ deliver-prices-spec =
     (tie.spec
     (λ c κs. search needs)
     (λ c. search needs)
-    mul-if1
-    add-if1
+    (λ c. search needs)
+    counts-at-requires
+    hand-over-prices-requires
+    (λ c. search needs)
     returns
-    write-prices-requires
-    (λ c. search needs)
-    (λ c. search needs)
-    returns-2
-    returns-3)
+    returns-2)

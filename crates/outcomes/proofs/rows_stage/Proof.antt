@@ -6,7 +6,7 @@ use Rattle.cases.specs.declared.Stage.the-variants.{Passed, Refused}
 use Rattle.market.specs.Refusals.{firstOf}
 use Rattle.market.specs.Records.{countsIn}
 use Rattle.market.specs.CaseFile.{caseOf}
-use native.Mathlib.Omega.{arith}
+use Rattle.market.specs.declared.First.the-variants.{None, At}
 use mathlib.Core.Path.{_≡_, _∙_}
 use borrow.Author.Needs.{needs}
 use Rattle.outcomes.proofs.rows_stage.Statement.{statement}
@@ -19,10 +19,20 @@ first-broken-requires : tie.Need-first-broken-requires
 first-broken-requires c κs = let s = c .before .before .before .before .before .before in let h : stageOf (countsIn (caseOf (s .args .b .now))) (firstOf (groundsTo13 (s .args .b .now) (s .args .q .now))) ≡ Passed (c .before .earlier .given .0 .0) = cc in passed-standing (s .args .b .now) (s .args .q .now) _ h
 
 returns-2 : tie.Need-returns-2
-returns-2 c = let s = c .before .before .before .before .before .before .before .before in let h : stageOf (countsIn (caseOf (s .args .b .now))) (firstOf (groundsTo13 (s .args .b .now) (s .args .q .now))) ≡ Passed (c .before .before .before .earlier .given .0 .0) = cc in row-broken (s .args .b .now) (s .args .q .now) _ (c .before .first-broken .result) h (omega arith) (c .before .first-broken .ensures)
+returns-2 c =
+    let f = c .before .before in
+    let s = f .before .before .before .before .before .before .before in
+    let h : stageOf (countsIn (caseOf (s .args .b .now))) (firstOf (groundsTo13 (s .args .b .now) (s .args .q .now))) ≡ Passed (f .before .before .earlier .given .0 .0) = cc in
+    let none : f .first-broken .result ≡ None = cc in
+    rows-met (s .args .b .now) (s .args .q .now) _ (f .first-broken .result) h none (f .first-broken .ensures)
 
 returns-3 : tie.Need-returns-3
-returns-3 c = let s = c .before .before .before .before .before .before .before .before in let h : stageOf (countsIn (caseOf (s .args .b .now))) (firstOf (groundsTo13 (s .args .b .now) (s .args .q .now))) ≡ Passed (c .before .before .before .earlier .given .0 .0) = cc in rows-met (s .args .b .now) (s .args .q .now) _ (c .before .first-broken .result) h (omega arith) (c .before .first-broken .ensures)
+returns-3 c =
+    let f = c .before .before .before in
+    let s = f .before .before .before .before .before .before .before in
+    let h : stageOf (countsIn (caseOf (s .args .b .now))) (firstOf (groundsTo13 (s .args .b .now) (s .args .q .now))) ≡ Passed (f .before .before .earlier .given .0 .0) = cc in
+    let at : f .first-broken .result ≡ At (c .before .found .given .0 .0) = cc in
+    row-broken (s .args .b .now) (s .args .q .now) _ (f .first-broken .result) _ h at (f .first-broken .ensures)
 
 pub rows-stage-spec : {M : Type 1} → statement M
 rows-stage-spec =
@@ -33,5 +43,7 @@ rows-stage-spec =
     (λ c. search needs)
     returns
     first-broken-requires
+    (λ c. search needs)
+    (λ c. search needs)
     returns-2
     returns-3)

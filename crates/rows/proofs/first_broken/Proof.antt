@@ -1,6 +1,9 @@
-use mathlib.Core.Path.{ap}
+use mathlib.Core.Path.{_≡_, ap}
+use mathlib.Core.Bool.{true}
+use Rattle.market.specs.declared.First.the-variants.{None, At}
 use Rattle.market.specs.declared.Refusal.the-variants.{RowBroken}
 use Rattle.market.specs.CaseFile.{caseOf}
+use Rattle.market.specs.Rows.{Balance}
 use Rattle.market.specs.Certificate.{certificateOf}
 use Rattle.market.specs.Outcome.{rowMet}
 use Rattle.limits.proofs.Fields.{told-false, told-true}
@@ -17,25 +20,43 @@ returns c = let s = c .before .before .before .before in balance-broken (rowMet 
 market-short-requires : tie.Need-market-short-requires
 market-short-requires c κs = let s = c .before .before .before .before .before in (s .pre, ap (λ (v : ReserveTotals). v .market) (c .totals .ensures))
 
+-- row 1 is met
+balance-met : (c : tie.Else1) → let s = c .before .before .before .before in rowMet (caseOf (s .args .b .now)) (certificateOf (s .args .q .now)) Balance ≡ true
+balance-met c = told-true (c .before .balanced .ensures) (c .if1 .left)
+
+-- and so are the market's
+market-met : (c : tie.After-enum-told) → c .before .before .market-short .result ≡ None
+market-met c = cc
+
 returns-2 : tie.Need-returns-2
 returns-2 c =
-    let s = c .before .before .before .before .before .before .before in
-    market-broken (rowMet (caseOf (s .args .b .now)) (certificateOf (s .args .q .now))) RowBroken (caseOf (s .args .b .now)) (told-true (c .before .before .before .before .balanced .ensures) (c .before .before .before .if1 .left)) (c .before .market-short .result) (c .if2 .taken) (c .before .market-short .ensures)
+    let m = c .before .before in
+    let s = m .before .before .before .before .before .before in
+    let at : m .market-short .result ≡ At (c .enum-told2 .given .0 .0) = cc in
+    market-broken (rowMet (caseOf (s .args .b .now)) (certificateOf (s .args .q .now))) RowBroken (caseOf (s .args .b .now)) (balance-met (m .before .before)) (m .market-short .result) _ at (m .market-short .ensures)
 
 zones-short-requires : tie.Need-zones-short-requires
-zones-short-requires c κs = let s = c .before .before .before .before .before .before .before .before in (s .pre, ap (λ (v : ReserveTotals). v .zones) (c .before .before .before .totals .ensures))
+zones-short-requires c κs =
+    let m = c .before .before .before in
+    (m .before .before .before .before .before .before .pre, ap (λ (v : ReserveTotals). v .zones) (m .before .totals .ensures))
 
 returns-3 : tie.Need-returns-3
 returns-3 c =
-    let s = c .before .before .before .before .before .before .before .before .before .before in
-    zone-broken (rowMet (caseOf (s .args .b .now)) (certificateOf (s .args .q .now))) RowBroken (caseOf (s .args .b .now)) (told-true (c .before .before .before .before .before .before .before .balanced .ensures) (c .before .before .before .before .before .before .if1 .left)) (c .before .before .before .before .market-short .result) (c .before .before .before .if2 .left) (c .before .before .before .before .market-short .ensures)
-    (c .before .zones-short .result) (c .if3 .taken) (c .before .zones-short .ensures)
+    let z = c .before .before in
+    let m = z .before .before .before .before in
+    let s = m .before .before .before .before .before .before in
+    let at : z .zones-short .result ≡ At (c .enum-told4 .given .0 .0) = cc in
+    zone-broken (rowMet (caseOf (s .args .b .now)) (certificateOf (s .args .q .now))) RowBroken (caseOf (s .args .b .now)) (balance-met (m .before .before)) (m .market-short .result) (market-met (z .before .before)) (m .market-short .ensures)
+    (z .zones-short .result) _ at (z .zones-short .ensures)
 
 returns-4 : tie.Need-returns-4
 returns-4 c =
-    let s = c .before .before .before .before .before .before .before .before .before .before .before in
-    rest-broken (rowMet (caseOf (s .args .b .now)) (certificateOf (s .args .q .now))) RowBroken (caseOf (s .args .b .now)) (told-true (c .before .before .before .before .before .before .before .before .balanced .ensures) (c .before .before .before .before .before .before .before .if1 .left)) (c .before .before .before .before .before .market-short .result) (c .before .before .before .before .if2 .left) (c .before .before .before .before .before .market-short .ensures)
-    (c .before .before .zones-short .result) (c .network-broken .result) (c .before .if3 .left) (c .before .before .zones-short .ensures)
+    let z = c .before .before .before in
+    let m = z .before .before .before .before in
+    let s = m .before .before .before .before .before .before in
+    let none : z .zones-short .result ≡ None = cc in
+    rest-broken (rowMet (caseOf (s .args .b .now)) (certificateOf (s .args .q .now))) RowBroken (caseOf (s .args .b .now)) (balance-met (m .before .before)) (m .market-short .result) (market-met (z .before .before)) (m .market-short .ensures)
+    (z .zones-short .result) (c .network-broken .result) none (z .zones-short .ensures)
     (rw (zones-is (s .pre .prices .case-bytes)) at (c .network-broken .ensures))
 
 pub first-broken-spec : {M : Type 1} → statement M
@@ -46,8 +67,12 @@ first-broken-spec =
     returns
     (λ c κs. search needs)
     market-short-requires
+    (λ c. search needs)
+    (λ c. search needs)
     returns-2
     zones-short-requires
+    (λ c. search needs)
+    (λ c. search needs)
     returns-3
     (λ c κs. search needs)
     returns-4)

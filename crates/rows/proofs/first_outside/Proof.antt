@@ -1,4 +1,5 @@
-use mathlib.Core.Path.{_≡_, _∙_}
+use mathlib.Core.Path.{_≡_, _∙_, ap}
+use Rattle.market.specs.declared.First.the-variants.{At}
 use native.Mathlib.Numerals.{add-one}
 use native.Mathlib.Omega.{arith}
 use lib.IntN.{_+ℤ_, _-ℤ_}
@@ -39,7 +40,7 @@ unfolding firstFalse
 returns-2 c = rw (
   told-true (reserve-told (c .before .before .before .before)) (c .before .before .before .if1 .left),
   told-false (short-term-told (c .before)) (c .if2 .taken),
-) (add-one _)
+) (ap At (add-one _))
 
 returns-3 : tie.Need-returns-3
 unfolding firstFalse
@@ -47,7 +48,7 @@ returns-3 c = rw (
   told-true (reserve-told (c .before .before .before .before .before .before .before)) (c .before .before .before .before .before .before .if1 .left),
   told-true (short-term-told (c .before .before .before .before)) (c .before .before .before .if2 .left),
   told-false (minimum-told (c .before)) (c .if3 .taken),
-) (omega arith)
+) (ap At (omega arith))
 
 returns-4 : tie.Need-returns-4
 unfolding firstFalse
@@ -56,7 +57,7 @@ returns-4 c = rw (
   told-true (short-term-told (c .before .before .before .before .before .before)) (c .before .before .before .before .before .if2 .left),
   told-true (minimum-told (c .before .before .before)) (c .before .before .if3 .left),
   told-false (c .before .at-least4 .ensures) (c .if4 .taken),
-) (omega arith)
+) (ap At (omega arith))
 
 returns-5 : tie.Need-returns-5
 unfolding firstFalse
@@ -66,7 +67,7 @@ returns-5 c = rw (
   told-true (minimum-told (c .before .before .before .before .before)) (c .before .before .before .before .if3 .left),
   told-true (c .before .before .before .at-least4 .ensures) (c .before .before .if4 .left),
   told-false (c .before .at-least5 .ensures) (c .if5 .taken),
-) (omega arith)
+) (ap At (omega arith))
 
 returns-6 : tie.Need-returns-6
 unfolding firstFalse

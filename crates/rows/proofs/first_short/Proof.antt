@@ -1,3 +1,5 @@
+use mathlib.Core.Path.{ap}
+use Rattle.market.specs.declared.First.the-variants.{At}
 use native.Mathlib.Numerals.{add-one}
 use native.Mathlib.Omega.{arith}
 use Rattle.limits.proofs.Fields.{told-false, told-true}
@@ -16,7 +18,7 @@ unfolding firstFalse
 returns-2 c = rw (
   told-true (c .before .before .before .at-least .ensures) (c .before .before .if1 .left),
   told-false (c .before .at-least2 .ensures) (c .if2 .taken),
-) (add-one _)
+) (ap At (add-one _))
 
 returns-3 : tie.Need-returns-3
 unfolding firstFalse
@@ -24,7 +26,7 @@ returns-3 c = rw (
   told-true (c .before .before .before .before .before .at-least .ensures) (c .before .before .before .before .if1 .left),
   told-true (c .before .before .before .at-least2 .ensures) (c .before .before .if2 .left),
   told-false (c .before .at-least3 .ensures) (c .if3 .taken),
-) (omega arith)
+) (ap At (omega arith))
 
 returns-4 : tie.Need-returns-4
 unfolding firstFalse
@@ -33,7 +35,7 @@ returns-4 c = rw (
   told-true (c .before .before .before .before .before .at-least2 .ensures) (c .before .before .before .before .if2 .left),
   told-true (c .before .before .before .at-least3 .ensures) (c .before .before .if3 .left),
   told-false (c .before .at-least4 .ensures) (c .if4 .taken),
-) (omega arith)
+) (ap At (omega arith))
 
 returns-5 : tie.Need-returns-5
 unfolding firstFalse

@@ -8,7 +8,6 @@ use Rattle.market.specs.Outcome.{rowMet}
 use Rattle.market.proofs.FirstFailing.{passes, fails, first-none}
 use Rattle.records.proofs.Places.{flowgate-in, resources-is}
 use Rattle.prices.proofs.Known.{limit-room}
-use Rattle.rows.proofs.Search.{found-some}
 use Rattle.rows.proofs.Tests.{flowgate-met}
 use borrow.Author.Needs.{needs}
 use Rattle.rows.proofs.flowgate_over.Statement.{statement}
@@ -37,7 +36,7 @@ returns c =
 returns-2 : tie.Need-returns-2
 returns-2 c =
     let s = c .before .before .before .before .before .before .before in
-    found-some RowBroken (s .args .row) (s .pre .1 .1 .from) ∙ sym (fails (rowMet (caseOf (s .args .b .now)) (certificateOf (s .args .q .now))) RowBroken (s .args .row) (Flowgate (s .args .g)) [] (sym (told (c .before)) ∙ c .if1 .left))
+    sym (fails (rowMet (caseOf (s .args .b .now)) (certificateOf (s .args .q .now))) RowBroken (s .args .row) (Flowgate (s .args .g)) [] (sym (told (c .before)) ∙ c .if1 .left))
 
 pub flowgate-over-spec : {M : Type 1} → statement M
 flowgate-over-spec =

@@ -2,6 +2,7 @@ use mathlib.Core.Path.{_≡_, refl, sym, ap, _∙_}
 use Prim.Native.Nat.{_+_, _*_, _-_, _≤_}
 use native.Mathlib.Omega.{arith}
 use Rattle.arith.specs.Sums.{upto, across}
+use Rattle.market.specs.declared.First.the-variants.{None, At}
 use Rattle.market.specs.declared.Refusal.the-variants.{RowBroken}
 use Rattle.market.specs.CaseFile.{caseOf}
 use Rattle.market.specs.Certificate.{certificateOf}
@@ -27,7 +28,7 @@ loop-holds : tie.Need-loop-holds Inv-loop μ-loop
 loop-holds c = let s = c .before .before in (omega arith, omega arith, search-none (rowMet (caseOf (s .args .b .now)) (certificateOf (s .args .q .now))) RowBroken (λ g. Flowgate g ∷ []) 1 (λ i. refl) (s .args .first))
 
 flowgate-over-requires : tie.Need-flowgate-over-requires Inv-loop μ-loop
-flowgate-over-requires c κs = let s = c .before .before .before .before in (s .pre .0, (omega arith, record { from = omega arith; to = omega (arith, s .pre .0 .prices .case-bytes .most-flowgates) }))
+flowgate-over-requires c κs = let s = c .before .before .before .before in (s .pre .0, (omega arith, record { to = omega (arith, s .pre .0 .prices .case-bytes .most-flowgates) }))
 
 -- what is found there, by the row's number
 told : (c : tie.After-flowgate-over Inv-loop μ-loop) →
@@ -37,15 +38,18 @@ told : (c : tie.After-flowgate-over Inv-loop μ-loop) →
 told c = rw (c .before .before .loop .inv .1) at (c .flowgate-over .ensures)
 
 returns : tie.Need-returns Inv-loop μ-loop
-returns c = let s = c .before .before .before .before .before .before in search-stop (rowMet (caseOf (s .args .b .now)) (certificateOf (s .args .q .now))) RowBroken (λ g. Flowgate g ∷ []) 1 (λ i. refl) (s .args .first) (c .before .before .before .loop .g) ((caseOf (s .args .b .now)) .flowgates) (c .before .flowgate-over .result) (flowgate-below (s .pre .0 .prices) (omega arith)) (c .if1 .taken) (c .before .before .before .loop .inv .2) (told (c .before)) ∙ ap (firstFailing (rowMet (caseOf (s .args .b .now)) (certificateOf (s .args .q .now))) RowBroken (s .args .first)) (flowgate-blocks (caseOf (s .args .b .now)))
+returns c = let s = c .before .before .before .before .before .before .before in
+    let at : c .before .before .flowgate-over .result ≡ At (c .enum-told2 .given .0 .0) = cc in
+    search-stop (rowMet (caseOf (s .args .b .now)) (certificateOf (s .args .q .now))) RowBroken (λ g. Flowgate g ∷ []) 1 (λ i. refl) (s .args .first) (c .before .before .before .before .loop .g) ((caseOf (s .args .b .now)) .flowgates) (c .before .before .flowgate-over .result) (c .enum-told2 .given .0 .0) (flowgate-below (s .pre .0 .prices) (omega arith)) at (c .before .before .before .before .loop .inv .2) (told (c .before .before)) ∙ ap (firstFailing (rowMet (caseOf (s .args .b .now)) (certificateOf (s .args .q .now))) RowBroken (s .args .first)) (flowgate-blocks (caseOf (s .args .b .now)))
 
 add-row : tie.Need-add-row Inv-loop μ-loop
-add-row c = let s = c .before .before .before .before .before .before in omega (arith, s .pre .0 .prices .case-bytes .most-flowgates)
+add-row c = let s = c .before .before .before .before .before .before .before in omega (arith, s .pre .0 .prices .case-bytes .most-flowgates)
 
 loop-again : tie.Need-loop-again Inv-loop μ-loop
 loop-again c =
-    let s = c .before .before .before .before .before .before in
-    (omega arith, omega arith, search-more (rowMet (caseOf (s .args .b .now)) (certificateOf (s .args .q .now))) RowBroken (λ g. Flowgate g ∷ []) 1 (λ i. refl) (s .args .first) (c .before .before .before .loop .g) (c .before .flowgate-over .result) (c .before .before .before .loop .inv .2) (c .if1 .left) (told (c .before)))
+    let s = c .before .before .before .before .before .before .before in
+    let none : c .before .before .flowgate-over .result ≡ None = cc in
+    (omega arith, omega arith, search-more (rowMet (caseOf (s .args .b .now)) (certificateOf (s .args .q .now))) RowBroken (λ g. Flowgate g ∷ []) 1 (λ i. refl) (s .args .first) (c .before .before .before .before .loop .g) (c .before .before .flowgate-over .result) (c .before .before .before .before .loop .inv .2) none (told (c .before .before)))
 
 returns-2 : tie.Need-returns-2 Inv-loop μ-loop
 returns-2 c =
@@ -61,6 +65,8 @@ flowgates-over-spec =
     μ-loop
     loop-holds
     flowgate-over-requires
+    (λ c. search needs)
+    (λ c. search needs)
     returns
     add-row
     (λ c. search needs)

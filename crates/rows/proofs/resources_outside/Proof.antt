@@ -2,6 +2,7 @@ use mathlib.Core.Path.{_≡_, refl, sym}
 use Prim.Native.Nat.{_+_, _*_, _-_, _≤_}
 use native.Mathlib.Omega.{arith}
 use Rattle.arith.specs.Sums.{upto, across}
+use Rattle.market.specs.declared.First.the-variants.{None, At}
 use Rattle.market.specs.declared.Refusal.the-variants.{RowBroken}
 use Rattle.market.specs.CaseFile.{caseOf}
 use Rattle.market.specs.Certificate.{certificateOf}
@@ -26,7 +27,7 @@ loop-holds : tie.Need-loop-holds Inv-loop μ-loop
 loop-holds c = let s = c .before .before in (omega arith, omega arith, search-none (rowMet (caseOf (s .args .b .now)) (certificateOf (s .args .q .now))) RowBroken (λ i. map (Limited i) limits) 5 (λ i. refl) (s .args .first))
 
 resource-outside-requires : tie.Need-resource-outside-requires Inv-loop μ-loop
-resource-outside-requires c κs = let s = c .before .before .before .before in (s .pre .0, (omega arith, record { from = omega arith; to = omega (arith, s .pre .0 .prices .case-bytes .most-resources) }))
+resource-outside-requires c κs = let s = c .before .before .before .before in (s .pre .0, (omega arith, record { to = omega (arith, s .pre .0 .prices .case-bytes .most-resources) }))
 
 -- what is found there, by the row's number
 told : (c : tie.After-resource-outside Inv-loop μ-loop) →
@@ -36,15 +37,18 @@ told : (c : tie.After-resource-outside Inv-loop μ-loop) →
 told c = rw (c .before .before .loop .inv .1) at (c .resource-outside .ensures)
 
 returns : tie.Need-returns Inv-loop μ-loop
-returns c = let s = c .before .before .before .before .before .before in search-stop (rowMet (caseOf (s .args .b .now)) (certificateOf (s .args .q .now))) RowBroken (λ i. map (Limited i) limits) 5 (λ i. refl) (s .args .first) (c .before .before .before .loop .i) ((caseOf (s .args .b .now)) .resources) (c .before .resource-outside .result) (resource-below (s .pre .0 .prices) (omega arith)) (c .if1 .taken) (c .before .before .before .loop .inv .2) (told (c .before))
+returns c = let s = c .before .before .before .before .before .before .before in
+    let at : c .before .before .resource-outside .result ≡ At (c .enum-told2 .given .0 .0) = cc in
+    search-stop (rowMet (caseOf (s .args .b .now)) (certificateOf (s .args .q .now))) RowBroken (λ i. map (Limited i) limits) 5 (λ i. refl) (s .args .first) (c .before .before .before .before .loop .i) ((caseOf (s .args .b .now)) .resources) (c .before .before .resource-outside .result) (c .enum-told2 .given .0 .0) (resource-below (s .pre .0 .prices) (omega arith)) at (c .before .before .before .before .loop .inv .2) (told (c .before .before))
 
 add-row : tie.Need-add-row Inv-loop μ-loop
-add-row c = let s = c .before .before .before .before .before .before in omega (arith, s .pre .0 .prices .case-bytes .most-resources)
+add-row c = let s = c .before .before .before .before .before .before .before in omega (arith, s .pre .0 .prices .case-bytes .most-resources)
 
 loop-again : tie.Need-loop-again Inv-loop μ-loop
 loop-again c =
-    let s = c .before .before .before .before .before .before in
-    (omega arith, omega arith, search-more (rowMet (caseOf (s .args .b .now)) (certificateOf (s .args .q .now))) RowBroken (λ i. map (Limited i) limits) 5 (λ i. refl) (s .args .first) (c .before .before .before .loop .i) (c .before .resource-outside .result) (c .before .before .before .loop .inv .2) (c .if1 .left) (told (c .before)))
+    let s = c .before .before .before .before .before .before .before in
+    let none : c .before .before .resource-outside .result ≡ None = cc in
+    (omega arith, omega arith, search-more (rowMet (caseOf (s .args .b .now)) (certificateOf (s .args .q .now))) RowBroken (λ i. map (Limited i) limits) 5 (λ i. refl) (s .args .first) (c .before .before .before .before .loop .i) (c .before .before .resource-outside .result) (c .before .before .before .before .loop .inv .2) none (told (c .before .before)))
 
 returns-2 : tie.Need-returns-2 Inv-loop μ-loop
 returns-2 c =
@@ -60,6 +64,8 @@ resources-outside-spec =
     μ-loop
     loop-holds
     resource-outside-requires
+    (λ c. search needs)
+    (λ c. search needs)
     returns
     add-row
     (λ c. search needs)

@@ -19,7 +19,7 @@ returns : tie.Need-returns
 returns c =
     let s = c .before .before .before .before in
     rw (c .first-short .ensures, s .pre .1, c .before .required .ensures, zone-tests (caseOf (s .args .b .now)) (certificateOf (s .args .q .now)) (s .args .r) (s .args .zone) (resources-is (s .pre .0 .0 .prices .case-bytes)))
-    (first-false (rowMet (caseOf (s .args .b .now)) (certificateOf (s .args .q .now))) RowBroken (s .args .first) (map (Zone (s .args .zone)) curves) (s .pre .0 .1 .1 .from))
+    (first-false (rowMet (caseOf (s .args .b .now)) (certificateOf (s .args .q .now))) RowBroken (s .args .first) (map (Zone (s .args .zone)) curves))
 
 pub zone-short-spec : {M : Type 1} → statement M
 zone-short-spec =

@@ -2,6 +2,7 @@ use mathlib.Core.Path.{_≡_, refl, sym}
 use Prim.Native.Nat.{_+_, _*_, _-_, _≤_}
 use native.Mathlib.Omega.{arith}
 use Rattle.arith.specs.Sums.{upto, across}
+use Rattle.market.specs.declared.First.the-variants.{None, At}
 use Rattle.market.specs.declared.Refusal.the-variants.{RowBroken}
 use Rattle.market.specs.CaseFile.{caseOf}
 use Rattle.market.specs.Certificate.{certificateOf}
@@ -35,7 +36,7 @@ zone-short-requires : tie.Need-zone-short-requires Inv-loop μ-loop
 zone-short-requires c κs =
     let s = c .before .before .before .before .before in
     let zone = c .before .before .loop .zone in (
-      (s .pre .0, (omega arith, record { from = omega arith; to = omega (arith, s .pre .0 .prices .case-bytes .most-zones) })),
+      (s .pre .0, (omega arith, record { to = omega (arith, s .pre .0 .prices .case-bytes .most-zones) })),
       rw (s .pre .1) (table-entry _ (zoneTotal (s .args .b .now) (s .args .q .now) (s .args .r)) 8 zone (in-array (c .before))),
     )
 
@@ -47,15 +48,18 @@ told : (c : tie.After-zone-short Inv-loop μ-loop) →
 told c = rw (c .before .before .before .loop .inv .1) at (c .zone-short .ensures)
 
 returns : tie.Need-returns Inv-loop μ-loop
-returns c = let s = c .before .before .before .before .before .before .before in search-stop (rowMet (caseOf (s .args .b .now)) (certificateOf (s .args .q .now))) RowBroken (λ y. map (Zone y) curves) 4 (λ i. refl) 6 (c .before .before .before .before .loop .zone) ((caseOf (s .args .b .now)) .zones) (c .before .zone-short .result) (zone-below (s .pre .0 .prices) (omega arith)) (c .if1 .taken) (c .before .before .before .before .loop .inv .2) (told (c .before))
+returns c = let s = c .before .before .before .before .before .before .before .before in
+    let at : c .before .before .zone-short .result ≡ At (c .enum-told2 .given .0 .0) = cc in
+    search-stop (rowMet (caseOf (s .args .b .now)) (certificateOf (s .args .q .now))) RowBroken (λ y. map (Zone y) curves) 4 (λ i. refl) 6 (c .before .before .before .before .before .loop .zone) ((caseOf (s .args .b .now)) .zones) (c .before .before .zone-short .result) (c .enum-told2 .given .0 .0) (zone-below (s .pre .0 .prices) (omega arith)) at (c .before .before .before .before .before .loop .inv .2) (told (c .before .before))
 
 add-row : tie.Need-add-row Inv-loop μ-loop
-add-row c = let s = c .before .before .before .before .before .before .before in omega (arith, s .pre .0 .prices .case-bytes .most-zones)
+add-row c = let s = c .before .before .before .before .before .before .before .before in omega (arith, s .pre .0 .prices .case-bytes .most-zones)
 
 loop-again : tie.Need-loop-again Inv-loop μ-loop
 loop-again c =
-    let s = c .before .before .before .before .before .before .before in
-    (omega arith, omega arith, search-more (rowMet (caseOf (s .args .b .now)) (certificateOf (s .args .q .now))) RowBroken (λ y. map (Zone y) curves) 4 (λ i. refl) 6 (c .before .before .before .before .loop .zone) (c .before .zone-short .result) (c .before .before .before .before .loop .inv .2) (c .if1 .left) (told (c .before)))
+    let s = c .before .before .before .before .before .before .before .before in
+    let none : c .before .before .zone-short .result ≡ None = cc in
+    (omega arith, omega arith, search-more (rowMet (caseOf (s .args .b .now)) (certificateOf (s .args .q .now))) RowBroken (λ y. map (Zone y) curves) 4 (λ i. refl) 6 (c .before .before .before .before .before .loop .zone) (c .before .before .zone-short .result) (c .before .before .before .before .before .loop .inv .2) none (told (c .before .before)))
 
 returns-2 : tie.Need-returns-2 Inv-loop μ-loop
 returns-2 c =
@@ -73,6 +77,8 @@ zones-short-spec =
     (λ c. search needs)
     in-array
     zone-short-requires
+    (λ c. search needs)
+    (λ c. search needs)
     returns
     add-row
     (λ c. search needs)

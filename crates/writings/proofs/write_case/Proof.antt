@@ -1,11 +1,41 @@
 -- `writings::write_case` meets its contract. Assumes nothing.
+use mathlib.Core.Path.{_≡_}
 use borrow.Author.Needs.{needs}
-use Rattle.writings.proofs.Handed.{case-written}
+use Rattle.market.specs.Refusals.{firstOf}
+use Rattle.cases.specs.declared.Stage.the-variants.{Passed, Refused}
+use Rattle.cases.specs.Stages.{stageOf}
+use Rattle.cases.proofs.Passing.{passed-clear, refused-holds}
+use Rattle.fields.specs.declared.File.the-variants.{Case}
+use Rattle.writings.specs.Writing.{countsOf, groundsOf}
+use Rattle.writings.proofs.Handed.{case-written, write-refused}
 use Rattle.writings.proofs.write_case.Statement.{statement}
 use Rattle.writings.proofs.write_case.Tie as tie
+
+hand-over-requires : tie.Need-hand-over-requires
+hand-over-requires c κs =
+    let v = c .before .before .before .before .before .args .v .now in
+    let h : stageOf (countsOf v) (firstOf (groundsOf Case v)) ≡ Passed (c .before .enum-told .given .0 .0) = cc in
+    passed-clear (countsOf v) _ (firstOf (groundsOf Case v)) h .0
 
 returns : tie.Need-returns
 returns c = case-written _ _ _ _ (c .before .before .hand-over .ensures)
 
+returns-2 : tie.Need-returns-2
+returns-2 c =
+    let s = c .before .before .before .before .before in
+    let v = s .args .v .now in
+    let w = c .before .stage .given .0 .0 in
+    let h : stageOf (countsOf v) (firstOf (groundsOf Case v)) ≡ Refused w = cc in
+    case-written v (s .args .out .now) _ _ (write-refused Case v (s .args .out .now) w (refused-holds (countsOf v) w (firstOf (groundsOf Case v)) h))
+
 pub write-case-spec : {M : Type 1} → statement M
-write-case-spec = tie.close (tie.spec (λ c κs. search needs) (λ c κs. search needs) (λ c. search needs) returns)
+write-case-spec =
+    tie.close
+    (tie.spec
+    (λ c κs. search needs)
+    (λ c. search needs)
+    (λ c. search needs)
+    hand-over-requires
+    (λ c. search needs)
+    returns
+    returns-2)
