@@ -33,7 +33,7 @@ pub fn new<'a>(bytes: &'a [u8], resources: usize, zones: usize, flowgates: usize
     }
 }
 
-// ---- the head of a case: demand, reserve terms, demand curves
+// ---- the head of a case, at places that no count moves: demand, reserve terms, demand curves
 
 pub fn demand_of<'a>(r: CaseReader<'a>) -> Kw
     requires { ⌜ HeadIn (now (r .bytes)) ⌝ }
