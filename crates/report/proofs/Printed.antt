@@ -21,7 +21,6 @@ use Rattle.market.specs.Records.{countsIn}
 use Rattle.market.specs.Refusals.{Finding, clear, holds, unless, firstOf, outcomeOf}
 use Rattle.market.specs.Outcome.{grounds, valuation, outcome}
 use Rattle.market.specs.Program.{report, refusalLine, printed, printedOf, caseIn, certificateIn, mostInput}
-use Rattle.cases.specs.Stages.{stageOf}
 use Rattle.prices.specs.Standing.{Standing}
 use Rattle.outcomes.proofs.Passing.{all-standing}
 use Rattle.arith.proofs.Buffers.{rest-is}
@@ -39,7 +38,7 @@ clear-of w v (holds r) e = absurd (let z : _≡_ {A = ℕ} 0 1 = cc in omega ari
 pub accepted-stands : (b q : List ℕ) (v : Valuation) → outcome b q ≡ Accepted v → Standing b q (countsIn (caseOf b) .resources) (countsIn (caseOf b) .zones) (countsIn (caseOf b) .flowgates)
 unfolding outcome
 accepted-stands b q v e =
-    all-standing b q (countsIn (caseOf b)) (ap (stageOf (countsIn (caseOf b))) (clear-of (valuation (caseOf b) (certificateOf q)) v (firstOf (grounds b q)) e))
+    all-standing b q (countsIn (caseOf b)) (record { none-holds = clear-of (valuation (caseOf b) (certificateOf q)) v (firstOf (grounds b q)) e; counts = refl })
 
 -- ---- no text is longer than the room
 accepted-most : (b q : List ℕ) (v : Valuation) → outcome b q ≡ Accepted v → length (report (caseOf b) (certificateOf q) (Accepted v)) ≤ mostText
