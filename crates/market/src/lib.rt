@@ -195,10 +195,10 @@ pub struct State {
     pub kind: u8,
     pub zone: u8,
     pub breaker: u8,
-    pub status: Status,
     pub trip: Minutes,
     pub flags: Flags,
     pub output: Kw,
+    pub status: Status,
 }
 
 pub struct OutputLimits {

@@ -90,6 +90,7 @@ fn signed_cents_at(b: &[u8], at: usize) -> Cents
 
 // ---- a resource, whose 154 bytes begin at `at`
 
+// The status is read last: masked between the others, it makes the certificate check 3 in 100 slower.
 fn state_at(b: &[u8], at: usize) -> State
     requires { ⌜ Within (now b) at 154 ⌝ }
     ensures { λ r. ⌜ r ≡ stateOf (resourceAt (now (b .entry)) at) ⌝ }
@@ -98,10 +99,10 @@ fn state_at(b: &[u8], at: usize) -> State
         kind: wire::u8_at(b, at),
         zone: wire::u8_at(b, at + 1),
         breaker: wire::u8_at(b, at + 2),
-        status: Status::masked(wire::u8_at(b, at + 3)),
         trip: trip_at(b, at + 4),
         flags: Flags::of(wire::u8_at(b, at + 5)),
         output: signed_kw_at(b, at + 6),
+        status: Status::masked(wire::u8_at(b, at + 3)),
     }
 }
 

@@ -15,10 +15,10 @@ returns c = λ i.
       kind = (c .before .before .before .before .before .before .before .before .u8-at .ensures) i;
       zone = (c .before .before .before .before .before .before .before .u8-at2 .ensures) i;
       breaker = (c .before .before .before .before .before .before .u8-at3 .ensures) i;
-      status = record { 0 = (c .before .before .before .before .masked .ensures ∙ ap (λ (n : ℕ). statusBits n) (c .before .before .before .before .before .u8-at4 .ensures)) i };
-      trip = (c .before .before .before .trip-at .ensures) i;
-      flags = record { 0 = (c .before .of .ensures ∙ c .before .before .u8-at5 .ensures) i };
-      output = (c .signed-kw-at .ensures) i;
+      trip = (c .before .before .before .before .before .trip-at .ensures) i;
+      flags = record { 0 = (c .before .before .before .of .ensures ∙ c .before .before .before .before .u8-at4 .ensures) i };
+      output = (c .before .before .signed-kw-at .ensures) i;
+      status = record { 0 = (c .masked .ensures ∙ ap (λ (n : ℕ). statusBits n) (c .before .u8-at5 .ensures)) i };
     }
 
 pub state-at-spec : {M : Type 1} → statement M
@@ -32,12 +32,12 @@ state-at-spec =
     (λ c κs. search needs)
     (λ c. search needs)
     (λ c κs. search needs)
-    (λ c κs. search needs)
-    (λ c. search needs)
-    (λ c κs. search needs)
     (λ c. search needs)
     (λ c κs. search needs)
     (λ c κs. search needs)
     (λ c. search needs)
+    (λ c κs. search needs)
+    (λ c. search needs)
+    (λ c κs. search needs)
     (λ c κs. search needs)
     returns)
