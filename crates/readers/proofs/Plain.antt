@@ -1,7 +1,7 @@
 -- Functions on plain parameters that make a `CaseReader` by `new`, hold it in a local and pass it to a function of Thin.antt, with n numbers beside it.
 -- What their walks by hand share. The walks themselves are in PlainWalks.antt.
 -- All that is known of the two is that each meets its contract. Assumes nothing.
-use Rattle.readers.proofs.Walk.{_≡_, refl, ℕ, List, [], _∷_, length, URA, named, erased, w64, w8, Val, SProp, ent, sep, snd∗, exE, Lft, Share, Fml, ftrue, flft, Memory, Routine, Heap, Calls, Loops, WpFn, Tables, Atoms, sem, Lfts, Fun, fact, givenOf, tables, Given, ‵, raw, _⊛_, ⋆, _$_, _∵_, !, qed, move, drop, use1, use2, split, join, fsplit, fjoin, suffices, frame, done, fmOf, FmC, WpFn-mono, owns, Is, u8, RefT, now, plain, sliceVal, ShrSlice, slice-vals, shr-slice-tells, shr-slice-copy, Contract, Triple, onEntry, Meets, tripleOf, entered, cited, says, needs, Stays, stay-none-slice, walkOf, goes-none-slice, ends-at, walked, walk-meets, yes, ensured, lasts, tablesOf, Running, GhostRules, _++_, suc, _+_, Name, Ty, tyInt, tyRef, imm, Fn, local, valueLocal, seq, call, return, place, Model, Env, Closed, use0, flat, sliceTy, shrSliceOf, Ended, Clauses, closing, hasOf}
+use Rattle.readers.proofs.Walk.{_≡_, ℕ, List, [], _∷_, length, URA, named, erased, w8, Val, SProp, ent, sep, snd∗, exE, Lft, Share, Fml, ftrue, flft, Memory, Routine, Heap, Calls, Loops, WpFn, Tables, Atoms, sem, Lfts, Fun, fact, givenOf, tables, Given, ‵, raw, _⊛_, ⋆, _$_, _∵_, !, qed, move, drop, use1, use2, split, join, fsplit, fjoin, suffices, frame, done, fmOf, FmC, WpFn-mono, owns, Is, u8, RefT, now, plain, sliceVal, ShrSlice, slice-vals, shr-slice-tells, shr-slice-copy, Contract, Triple, onEntry, Meets, tripleOf, entered, cited, says, needs, Stays, stay-none-slice, walkOf, goes-none-slice, ends-at, walked, walk-meets, yes, ensured, lasts, tablesOf, Running, GhostRules, _++_, suc, _+_, Name, Ty, tyInt, tyRef, imm, Fn, local, valueLocal, seq, call, return, place, Model, Env, Closed, use0, flat, sliceTy, shrSliceOf, Ended, Clauses, closing, hasOf}
 use Rattle.readers.proofs.Numbers.{ints, kepts, stays, Ints, Numbers, spells, tells, words, Fit, ends, ends-fit, go, own-numbers, has-numbers}
 use Rattle.readers.proofs.Thin.{B, Shape, Thin, places, copies, words-of}
 use Rattle.readers.proofs.Thin as thin

@@ -4,7 +4,7 @@
 -- All that is known of the callee is that it meets its contract. Assumes nothing.
 use denote.Struct.Declared as Struct
 use denote.Struct.Laws as LL
-use Rattle.readers.proofs.Walk.{_≡_, refl, ℕ, List, [], _∷_, Holds, length, URA, named, erased, w64, w8, Val, WT, hasTy, SProp, ent, sep, snd∗, exE, Lft, Share, Fml, ftrue, flft, Routine, Heap, Calls, Loops, WpFn, Tables, Atoms, sem, Lfts, fact, givenOf, tables, Given, ‵, raw, _⊛_, given, ⋆, _$_, _∵_, !, qed, move, drop, use1, use2, split, learn, fsplit, fjoin, suffices, frame, done, fmOf, FmC, WpFn-mono, RattleType, owns, Is, u8, now, plain, namedLft, sliceVal, ShrSlice, Declared, all-own, ownAt, rest, own-open, own-out, Values, Contract, Triple, Vals, onEntry, Meets, tripleOf, entered, cited, says, needs, Stays, stay-none, walkOf, goes-none, ends-at, walked, walk-meets, yes, ensured, lasts, tablesOf, Running, GhostRules, _++_, zero, suc, _+_, Name, Ty, tyInt, tyRef, imm, Fn, Local, local, valueLocal, Body, seq, assign, call, return, rvOpd, Opd, copy, place, field, Model, Env, Closed, use0, flat, sliceTy, shrSliceOf, Ended, Clauses, closing, hasOf, layout}
+use Rattle.readers.proofs.Walk.{_≡_, refl, ℕ, List, [], _∷_, Holds, length, URA, named, erased, w64, w8, Val, WT, hasTy, SProp, ent, sep, snd∗, exE, Lft, Share, Fml, ftrue, flft, Routine, Heap, Calls, Loops, WpFn, Tables, Atoms, sem, Lfts, fact, givenOf, tables, Given, ‵, raw, _⊛_, given, ⋆, _$_, _∵_, !, qed, move, drop, use1, use2, split, learn, fsplit, fjoin, suffices, frame, done, fmOf, FmC, WpFn-mono, RattleType, owns, Is, u8, now, plain, namedLft, sliceVal, ShrSlice, Declared, all-own, ownAt, rest, own-open, own-out, Values, Contract, Triple, onEntry, Meets, tripleOf, entered, cited, says, needs, Stays, stay-none, walkOf, goes-none, ends-at, walked, walk-meets, yes, ensured, lasts, id⊢, Item, Goal, Seq, Soaks, mean, some, later, pick, await, heard, peeks, shows, tablesOf, Running, GhostRules, _++_, zero, suc, _+_, Name, Ty, tyInt, tyRef, imm, Fn, Local, local, valueLocal, Body, seq, assign, call, return, rvOpd, Opd, copy, place, field, Model, Env, Closed, use0, flat, sliceTy, shrSliceOf, Ended, Clauses, closing, hasOf, layout}
 use Rattle.readers.proofs.Numbers.{ints, kepts, stays, Ints, Numbers, spells, tells, words, Fit, ends, ends-fit, go, own-numbers, has-numbers}
 use Rattle.readers.specs.declared.CaseReader.{CaseReader}
 use Rattle.readers.proofs.CaseReader as T
@@ -151,6 +151,14 @@ module _ {n : ℕ} {s : Shape n} (t : Thin s) {M : Type 1} (𝓤 : URA M) (H : H
         qed W (‵ (t .row .own r (u ∷ [])) ∷ (‵ (flft κ q) ⊛ ‵ ftrue) ∷ ‵ Own ∷ []) ∵
         suffices ! _ (ends-at 𝓤 H A (this t) (stayed t) (clauses t 𝓤) W (((κ, tt), (q, tt), tt, (d, x), (mach ∷ [], words (κ, tt) n x)), tt) u r (tt, ends (κ, tt) n x) (tt, ends-fit (κ, tt) n x)) $ says ! e $
         move ! (1 ∷ []) $ frame ! $ use0 W (‵ (hasOf (κ, tt) (ints n) (kepts n) (stays n) x (ends (κ, tt) n x) (words (κ, tt) n x))) (has-numbers 𝓤 H A W (κ, tt) n x g) $ move ! (2 ∷ 0 ∷ []) $ fjoin ! $ frame ! $ done !
+
+-- what a call answers, which its contract says: the token is back, and the result is owned, and is what was to be found
+module _ {M : Type 1} {𝓤 : URA M} {H : Heap 𝓤} {A : Atoms 𝓤} {K : Type 0} (W : Given 𝓤 H A) {Γ : List (Item 𝓤)} {G : Goal 𝓤 H} where
+  pub answered : K → Soaks G → (κ : Lft) (q : Share) (R : RattleType) (u : Val) (E : R .Denot → SProp 𝓤) (found : R .Denot) → ((r : R .Denot) → ent 𝓤 (E r) (fact 𝓤 (r ≡ found)))
+      → ((r : R .Denot) → r ≡ found → Is R r (u ∷ []) → Seq K W (‵ (R .own r (u ∷ [])) ∷ (‵ (flft κ q) ⊛ ‵ ftrue) ∷ Γ) G)
+      → Seq K W (raw (mean 𝓤 H A (later (some (λ (r : R .Denot). ((‵ (flft κ q) ⊛ ‵ ftrue) ⊛ ‵ (R .own r (u ∷ []))) ⊛ raw (E r))))) ∷ Γ) G
+  answered t z κ q R u E found said k =
+      use1 W (later (some (λ (r : R .Denot). ((‵ (flft κ q) ⊛ ‵ ftrue) ⊛ ‵ (R .own r (u ∷ []))) ⊛ raw (E r)))) (id⊢ 𝓤 _) $ await t z $ pick t (λ r. split t $ move t (1 ∷ []) $ use1 W (raw (fact 𝓤 (r ≡ found))) (said r) $ heard t (r ≡ found) (λ e. split t $ move t (1 ∷ []) $ peeks t R (Is R) (shows 𝓤 H A R) r (u ∷ []) (λ is. k r e is)))
 
 -- ---- from a walk to the contract
 module _ {n : ℕ} {s : Shape n} (t : Thin s) {M : Type 1} (𝓤 : URA M) (H : Heap 𝓤) (A : Atoms 𝓤) (W : Given 𝓤 H A) where

@@ -1,7 +1,7 @@
 -- The walks by hand of the functions of Thin.antt, one for each choice of numbers beside the reader and of counts that are passed on.
 -- Assumes nothing.
-use Rattle.readers.proofs.Walk.{_≡_, refl, [], _∷_, URA, w64, vint, id⊢, ftrue, flft, Heap, Atoms, fact, Given, ‵, raw, _⊛_, some, later, _$_, _∵_, !, qed, by, move, use1, split, pick, await, whole, sub, look-in, look, init, forget, stop, fld, from, load, of-opd, and-then, no-more, assigns, land, returns, enter, alloc1, alloc0, params1, pass1, pass0, free1, free0, Is, shows, peeks, heard, calls-at}
-use Rattle.readers.proofs.Thin.{Shape, Thin, codeOf, Callee, mach, entry, Own, found, to, Ensured, said, apart, exits, Walk}
+use Rattle.readers.proofs.Walk.{refl, [], _∷_, URA, w64, vint, Heap, Atoms, Given, ‵, raw, _⊛_, _$_, _∵_, !, qed, by, move, use1, split, whole, sub, look-in, look, init, forget, stop, fld, from, load, of-opd, and-then, no-more, assigns, land, returns, enter, alloc1, alloc0, params1, pass1, pass0, free1, free0, calls-at}
+use Rattle.readers.proofs.Thin.{Shape, Thin, codeOf, Callee, mach, entry, Own, found, to, Ensured, said, apart, exits, answered, Walk}
 
 -- no number, and none of the counts
 abbrev pub unnumbered : Shape 0
@@ -31,12 +31,10 @@ module _ {M : Type 1} (𝓤 : URA M) (H : Heap 𝓤) (A : Atoms 𝓤) (W : Given
       assigns ! (of-opd ! (load ! (from ! (fld ! refl (stop !))) (look-in ! 2 (sub ! 0 refl (whole !))))) (from ! (stop !)) (init ! 0 refl (tt, wt .1 .0)) $
       move ! (6 ∷ []) $ use1 W (raw (Callee t 𝓤 H A .pre (to t 𝓤 H A κ q d x)) ⊛ ‵ (Own t 𝓤 H A κ q d x)) (apart t 𝓤 H A κ q d x W g asked) $ split ! $
       calls-at ! fm (Callee t 𝓤 H A) known (to t 𝓤 H A κ q d x) (and-then ! (load ! (from ! (stop !)) (look ! 2 refl)) (no-more !)) (λ u.
-      use1 W (later (some (λ (r : t .row .Denot). ((‵ (flft κ q) ⊛ ‵ ftrue) ⊛ ‵ (t .row .own r (u ∷ []))) ⊛ raw (Ensured t 𝓤 H A κ q d x r)))) (id⊢ 𝓤 _) $ await ! tt $ pick ! (λ r.
-      split ! $ move ! (1 ∷ []) $ use1 W (raw (fact 𝓤 (r ≡ found t 𝓤 H A κ q d x))) (said t 𝓤 H A κ q d x r) $ heard ! (r ≡ found t 𝓤 H A κ q d x) (λ e. split ! $ move ! (1 ∷ []) $
       -- [the result; the token; what the struct owns; the locals, from the last to room for _0]
-      peeks ! (t .row) (Is (t .row)) (shows 𝓤 H A (t .row)) r (u ∷ []) (λ is.
+      answered W ! tt κ q (t .row) u (Ensured t 𝓤 H A κ q d x) (found t 𝓤 H A κ q d x) (said t 𝓤 H A κ q d x) (λ r e is.
       land ! (from ! (stop !)) (init ! 7 refl (t .typed 𝓤 H A W r u is)) $ returns ! (look ! 7 refl) $ forget ! 3 refl $ forget ! 5 refl $ forget ! 7 refl $
-      move ! (7 ∷ 8 ∷ []) $ free1 ! $ move ! (5 ∷ 6 ∷ []) $ free1 ! $ move ! (3 ∷ 4 ∷ []) $ free1 ! $ free0 ! $ by ! (exits t 𝓤 H A κ q d x W g r u e))))))))
+      move ! (7 ∷ 8 ∷ []) $ free1 ! $ move ! (5 ∷ 6 ∷ []) $ free1 ! $ move ! (3 ∷ 4 ∷ []) $ free1 ! $ free0 ! $ by ! (exits t 𝓤 H A κ q d x W g r u e))))))
 
   pub walk-numbered : (t : Thin numbered) → Walk t 𝓤 H A W
   walk-numbered t name C Λ fm known κ q d x wt g asked =
@@ -45,12 +43,10 @@ module _ {M : Type 1} (𝓤 : URA M) (H : Heap 𝓤) (A : Atoms 𝓤) (W : Given
       assigns ! (of-opd ! (load ! (from ! (fld ! refl (stop !))) (look-in ! 4 (sub ! 0 refl (whole !))))) (from ! (stop !)) (init ! 0 refl (tt, wt .1 .0)) $
       move ! (8 ∷ []) $ use1 W (raw (Callee t 𝓤 H A .pre (to t 𝓤 H A κ q d x)) ⊛ ‵ (Own t 𝓤 H A κ q d x)) (apart t 𝓤 H A κ q d x W g asked) $ split ! $
       calls-at ! fm (Callee t 𝓤 H A) known (to t 𝓤 H A κ q d x) (and-then ! (load ! (from ! (stop !)) (look ! 2 refl)) (and-then ! (load ! (from ! (stop !)) (look ! 4 refl)) (no-more !))) (λ u.
-      use1 W (later (some (λ (r : t .row .Denot). ((‵ (flft κ q) ⊛ ‵ ftrue) ⊛ ‵ (t .row .own r (u ∷ []))) ⊛ raw (Ensured t 𝓤 H A κ q d x r)))) (id⊢ 𝓤 _) $ await ! tt $ pick ! (λ r.
-      split ! $ move ! (1 ∷ []) $ use1 W (raw (fact 𝓤 (r ≡ found t 𝓤 H A κ q d x))) (said t 𝓤 H A κ q d x r) $ heard ! (r ≡ found t 𝓤 H A κ q d x) (λ e. split ! $ move ! (1 ∷ []) $
       -- [the result; the token; what the struct owns; the locals, from the last to room for _0]
-      peeks ! (t .row) (Is (t .row)) (shows 𝓤 H A (t .row)) r (u ∷ []) (λ is.
+      answered W ! tt κ q (t .row) u (Ensured t 𝓤 H A κ q d x) (found t 𝓤 H A κ q d x) (said t 𝓤 H A κ q d x) (λ r e is.
       land ! (from ! (stop !)) (init ! 9 refl (t .typed 𝓤 H A W r u is)) $ returns ! (look ! 9 refl) $ forget ! 3 refl $ forget ! 5 refl $ forget ! 7 refl $ forget ! 9 refl $
-      move ! (9 ∷ 10 ∷ []) $ free1 ! $ move ! (7 ∷ 8 ∷ []) $ free1 ! $ move ! (5 ∷ 6 ∷ []) $ free1 ! $ move ! (3 ∷ 4 ∷ []) $ free1 ! $ free0 ! $ by ! (exits t 𝓤 H A κ q d x W g r u e)))))))))
+      move ! (9 ∷ 10 ∷ []) $ free1 ! $ move ! (7 ∷ 8 ∷ []) $ free1 ! $ move ! (5 ∷ 6 ∷ []) $ free1 ! $ move ! (3 ∷ 4 ∷ []) $ free1 ! $ free0 ! $ by ! (exits t 𝓤 H A κ q d x W g r u e)))))))
 
   pub walk-numbered-by-zones : (t : Thin numberedByZones) → Walk t 𝓤 H A W
   walk-numbered-by-zones t name C Λ fm known κ q d x wt g asked =
@@ -60,12 +56,10 @@ module _ {M : Type 1} (𝓤 : URA M) (H : Heap 𝓤) (A : Atoms 𝓤) (W : Given
       assigns ! (of-opd ! (load ! (from ! (fld ! refl (stop !))) (look-in ! 6 (sub ! 2 refl (whole !))))) (from ! (stop !)) (init ! 0 refl (tt, wt .1 .1 .1 .0)) $
       move ! (10 ∷ []) $ use1 W (raw (Callee t 𝓤 H A .pre (to t 𝓤 H A κ q d x)) ⊛ ‵ (Own t 𝓤 H A κ q d x)) (apart t 𝓤 H A κ q d x W ((refl, wt .1 .1 .1 .0 .fits), g) asked) $ split ! $
       calls-at ! fm (Callee t 𝓤 H A) known (to t 𝓤 H A κ q d x) (and-then ! (load ! (from ! (stop !)) (look ! 4 refl)) (and-then ! (load ! (from ! (stop !)) (look ! 2 refl)) (and-then ! (load ! (from ! (stop !)) (look ! 6 refl)) (no-more !)))) (λ u.
-      use1 W (later (some (λ (r : t .row .Denot). ((‵ (flft κ q) ⊛ ‵ ftrue) ⊛ ‵ (t .row .own r (u ∷ []))) ⊛ raw (Ensured t 𝓤 H A κ q d x r)))) (id⊢ 𝓤 _) $ await ! tt $ pick ! (λ r.
-      split ! $ move ! (1 ∷ []) $ use1 W (raw (fact 𝓤 (r ≡ found t 𝓤 H A κ q d x))) (said t 𝓤 H A κ q d x r) $ heard ! (r ≡ found t 𝓤 H A κ q d x) (λ e. split ! $ move ! (1 ∷ []) $
       -- [the result; the token; what the struct owns; the locals, from the last to room for _0]
-      peeks ! (t .row) (Is (t .row)) (shows 𝓤 H A (t .row)) r (u ∷ []) (λ is.
+      answered W ! tt κ q (t .row) u (Ensured t 𝓤 H A κ q d x) (found t 𝓤 H A κ q d x) (said t 𝓤 H A κ q d x) (λ r e is.
       land ! (from ! (stop !)) (init ! 11 refl (t .typed 𝓤 H A W r u is)) $ returns ! (look ! 11 refl) $ forget ! 3 refl $ forget ! 5 refl $ forget ! 7 refl $ forget ! 9 refl $ forget ! 11 refl $
-      move ! (11 ∷ 12 ∷ []) $ free1 ! $ move ! (9 ∷ 10 ∷ []) $ free1 ! $ move ! (7 ∷ 8 ∷ []) $ free1 ! $ move ! (5 ∷ 6 ∷ []) $ free1 ! $ move ! (3 ∷ 4 ∷ []) $ free1 ! $ free0 ! $ by ! (exits t 𝓤 H A κ q d x W g r u e))))))))))
+      move ! (11 ∷ 12 ∷ []) $ free1 ! $ move ! (9 ∷ 10 ∷ []) $ free1 ! $ move ! (7 ∷ 8 ∷ []) $ free1 ! $ move ! (5 ∷ 6 ∷ []) $ free1 ! $ move ! (3 ∷ 4 ∷ []) $ free1 ! $ free0 ! $ by ! (exits t 𝓤 H A κ q d x W g r u e))))))))
 
   pub walk-numbered-by-counts : (t : Thin numberedByCounts) → Walk t 𝓤 H A W
   walk-numbered-by-counts t name C Λ fm known κ q d x wt g asked =
@@ -76,12 +70,10 @@ module _ {M : Type 1} (𝓤 : URA M) (H : Heap 𝓤) (A : Atoms 𝓤) (W : Given
       assigns ! (of-opd ! (load ! (from ! (fld ! refl (stop !))) (look-in ! 8 (sub ! 2 refl (whole !))))) (from ! (stop !)) (init ! 0 refl (tt, wt .1 .1 .1 .0)) $
       move ! (12 ∷ []) $ use1 W (raw (Callee t 𝓤 H A .pre (to t 𝓤 H A κ q d x)) ⊛ ‵ (Own t 𝓤 H A κ q d x)) (apart t 𝓤 H A κ q d x W ((refl, wt .1 .1 .0 .fits), ((refl, wt .1 .1 .1 .0 .fits), g)) asked) $ split ! $
       calls-at ! fm (Callee t 𝓤 H A) known (to t 𝓤 H A κ q d x) (and-then ! (load ! (from ! (stop !)) (look ! 6 refl)) (and-then ! (load ! (from ! (stop !)) (look ! 4 refl)) (and-then ! (load ! (from ! (stop !)) (look ! 2 refl)) (and-then ! (load ! (from ! (stop !)) (look ! 8 refl)) (no-more !))))) (λ u.
-      use1 W (later (some (λ (r : t .row .Denot). ((‵ (flft κ q) ⊛ ‵ ftrue) ⊛ ‵ (t .row .own r (u ∷ []))) ⊛ raw (Ensured t 𝓤 H A κ q d x r)))) (id⊢ 𝓤 _) $ await ! tt $ pick ! (λ r.
-      split ! $ move ! (1 ∷ []) $ use1 W (raw (fact 𝓤 (r ≡ found t 𝓤 H A κ q d x))) (said t 𝓤 H A κ q d x r) $ heard ! (r ≡ found t 𝓤 H A κ q d x) (λ e. split ! $ move ! (1 ∷ []) $
       -- [the result; the token; what the struct owns; the locals, from the last to room for _0]
-      peeks ! (t .row) (Is (t .row)) (shows 𝓤 H A (t .row)) r (u ∷ []) (λ is.
+      answered W ! tt κ q (t .row) u (Ensured t 𝓤 H A κ q d x) (found t 𝓤 H A κ q d x) (said t 𝓤 H A κ q d x) (λ r e is.
       land ! (from ! (stop !)) (init ! 13 refl (t .typed 𝓤 H A W r u is)) $ returns ! (look ! 13 refl) $ forget ! 3 refl $ forget ! 5 refl $ forget ! 7 refl $ forget ! 9 refl $ forget ! 11 refl $ forget ! 13 refl $
-      move ! (13 ∷ 14 ∷ []) $ free1 ! $ move ! (11 ∷ 12 ∷ []) $ free1 ! $ move ! (9 ∷ 10 ∷ []) $ free1 ! $ move ! (7 ∷ 8 ∷ []) $ free1 ! $ move ! (5 ∷ 6 ∷ []) $ free1 ! $ move ! (3 ∷ 4 ∷ []) $ free1 ! $ free0 ! $ by ! (exits t 𝓤 H A κ q d x W g r u e)))))))))))
+      move ! (13 ∷ 14 ∷ []) $ free1 ! $ move ! (11 ∷ 12 ∷ []) $ free1 ! $ move ! (9 ∷ 10 ∷ []) $ free1 ! $ move ! (7 ∷ 8 ∷ []) $ free1 ! $ move ! (5 ∷ 6 ∷ []) $ free1 ! $ move ! (3 ∷ 4 ∷ []) $ free1 ! $ free0 ! $ by ! (exits t 𝓤 H A κ q d x W g r u e)))))))))
 
   pub walk-paired-by-counts : (t : Thin pairedByCounts) → Walk t 𝓤 H A W
   walk-paired-by-counts t name C Λ fm known κ q d x wt g asked =
@@ -92,9 +84,7 @@ module _ {M : Type 1} (𝓤 : URA M) (H : Heap 𝓤) (A : Atoms 𝓤) (W : Given
       assigns ! (of-opd ! (load ! (from ! (fld ! refl (stop !))) (look-in ! 10 (sub ! 2 refl (whole !))))) (from ! (stop !)) (init ! 0 refl (tt, wt .1 .1 .1 .0)) $
       move ! (14 ∷ []) $ use1 W (raw (Callee t 𝓤 H A .pre (to t 𝓤 H A κ q d x)) ⊛ ‵ (Own t 𝓤 H A κ q d x)) (apart t 𝓤 H A κ q d x W ((refl, wt .1 .1 .0 .fits), ((refl, wt .1 .1 .1 .0 .fits), g)) asked) $ split ! $
       calls-at ! fm (Callee t 𝓤 H A) known (to t 𝓤 H A κ q d x) (and-then ! (load ! (from ! (stop !)) (look ! 6 refl)) (and-then ! (load ! (from ! (stop !)) (look ! 4 refl)) (and-then ! (load ! (from ! (stop !)) (look ! 2 refl)) (and-then ! (load ! (from ! (stop !)) (look ! 10 refl)) (and-then ! (load ! (from ! (stop !)) (look ! 8 refl)) (no-more !)))))) (λ u.
-      use1 W (later (some (λ (r : t .row .Denot). ((‵ (flft κ q) ⊛ ‵ ftrue) ⊛ ‵ (t .row .own r (u ∷ []))) ⊛ raw (Ensured t 𝓤 H A κ q d x r)))) (id⊢ 𝓤 _) $ await ! tt $ pick ! (λ r.
-      split ! $ move ! (1 ∷ []) $ use1 W (raw (fact 𝓤 (r ≡ found t 𝓤 H A κ q d x))) (said t 𝓤 H A κ q d x r) $ heard ! (r ≡ found t 𝓤 H A κ q d x) (λ e. split ! $ move ! (1 ∷ []) $
       -- [the result; the token; what the struct owns; the locals, from the last to room for _0]
-      peeks ! (t .row) (Is (t .row)) (shows 𝓤 H A (t .row)) r (u ∷ []) (λ is.
+      answered W ! tt κ q (t .row) u (Ensured t 𝓤 H A κ q d x) (found t 𝓤 H A κ q d x) (said t 𝓤 H A κ q d x) (λ r e is.
       land ! (from ! (stop !)) (init ! 15 refl (t .typed 𝓤 H A W r u is)) $ returns ! (look ! 15 refl) $ forget ! 3 refl $ forget ! 5 refl $ forget ! 7 refl $ forget ! 9 refl $ forget ! 11 refl $ forget ! 13 refl $ forget ! 15 refl $
-      move ! (15 ∷ 16 ∷ []) $ free1 ! $ move ! (13 ∷ 14 ∷ []) $ free1 ! $ move ! (11 ∷ 12 ∷ []) $ free1 ! $ move ! (9 ∷ 10 ∷ []) $ free1 ! $ move ! (7 ∷ 8 ∷ []) $ free1 ! $ move ! (5 ∷ 6 ∷ []) $ free1 ! $ move ! (3 ∷ 4 ∷ []) $ free1 ! $ free0 ! $ by ! (exits t 𝓤 H A κ q d x W g r u e))))))))))))
+      move ! (15 ∷ 16 ∷ []) $ free1 ! $ move ! (13 ∷ 14 ∷ []) $ free1 ! $ move ! (11 ∷ 12 ∷ []) $ free1 ! $ move ! (9 ∷ 10 ∷ []) $ free1 ! $ move ! (7 ∷ 8 ∷ []) $ free1 ! $ move ! (5 ∷ 6 ∷ []) $ free1 ! $ move ! (3 ∷ 4 ∷ []) $ free1 ! $ free0 ! $ by ! (exits t 𝓤 H A κ q d x W g r u e))))))))))
