@@ -1,5 +1,5 @@
 -- From the stages' answer to the definitions: past 1 to 14 a certificate stands, its numbers fit, and its answer is 01's.
-use mathlib.Core.Path.{_≡_, refl, sym, _∙_}
+use mathlib.Core.Path.{_≡_, refl, sym, _∙_, ap}
 use mathlib.Core.List.{List, [], _∷_, _++_}
 use Prim.Native.Nat.{ℕ, _+_, _*_, _<_, _≤_}
 use native.Mathlib.Omega.{arith}
@@ -41,7 +41,7 @@ use Rattle.prices.specs.Standing.{Standing}
 use Rattle.units.specs.Room.{SumRoom}
 use Rattle.certificates.specs.Grounds13.{groundsTo13}
 use Rattle.certificates.proofs.Passing.{grounds-are, standing}
-use Rattle.outcomes.specs.Checked.{AcceptedWith, Checked}
+use Rattle.outcomes.specs.Checked.{AcceptedWith, outcomeAfter, Checked}
 
 -- ---- one ground more than 1 to 13
 abbrev rowGround : List ℕ → List ℕ → Finding
@@ -69,6 +69,9 @@ module _ (b q : List ℕ) where
   pub accepted-with : (n m : Counts) → stageOf (countsIn (caseOf b)) (firstOf (grounds b q)) ≡ Passed n → m ≡ countsIn (caseOf b) → AcceptedWith b q m
   accepted-with n m h e = record { none-holds = passed-clear (countsIn (caseOf b)) n (firstOf (grounds b q)) h .0; counts = e }
 
+  pub accepted-by : (n : Counts) → stageOf (countsIn (caseOf b)) (firstOf (grounds b q)) ≡ Passed n → AcceptedWith b q n
+  accepted-by n h = accepted-with n n h (passed-clear (countsIn (caseOf b)) n (firstOf (grounds b q)) h .1)
+
   pub all-standing : (n : Counts) → AcceptedWith b q n → Standing b q (n .resources) (n .zones) (n .flowgates)
   all-standing n h =
       let each = none-holds (grounds b q) (h .none-holds) in
@@ -93,6 +96,10 @@ module _ (b q : List ℕ) where
   pub refused : (w : Refusal) → stageOf (countsIn (caseOf b)) (firstOf (grounds b q)) ≡ Refused w → O.Refused w ≡ outcome b q
   unfolding outcome
   refused w h = rw (refused-holds (countsIn (caseOf b)) w (firstOf (grounds b q)) h)
+
+  -- of the stages' answer s and values v
+  pub after-refused : (s : Stage) (v : Valuation) (r : Outcome) (w : Refusal) → s ≡ stageOf (countsIn (caseOf b)) (firstOf (grounds b q)) → s ≡ Refused w → r ≡ outcomeAfter s v → r ≡ outcome b q
+  after-refused s v r w e p h = h ∙ ap (λ t. outcomeAfter t v) p ∙ refused w (sym e ∙ p)
 
   -- and with it the promise
   pub checked : (r : Outcome) → r ≡ outcome b q → Checked b q r

@@ -6,6 +6,10 @@ use lib.IntN.{ℤ}
 use Rattle.market.specs.declared.Counts.{Counts}
 use Rattle.market.specs.declared.Outcome.{Outcome}
 use Rattle.market.specs.declared.Outcome.the-variants.{Accepted}
+use Rattle.market.specs.declared.Outcome.the-variants as O
+use Rattle.market.specs.declared.Valuation.{Valuation}
+use Rattle.cases.specs.declared.Stage.{Stage}
+use Rattle.cases.specs.declared.Stage.the-variants as S
 use Rattle.market.specs.CaseFile.{caseOf}
 use Rattle.market.specs.Records.{countsIn}
 use Rattle.market.specs.Refusals.{clear, firstOf}
@@ -16,6 +20,11 @@ use Rattle.market.specs.Promise.{Promise}
 pub record AcceptedWith (b q : List ℕ) (n : Counts) : Type 0 where
   pub none-holds : firstOf (grounds b q) ≡ clear
   pub counts : n ≡ countsIn (caseOf b)
+
+-- the answer after the stages: accepted with these values, or refused
+abbrev pub outcomeAfter : Stage → Valuation → Outcome
+outcomeAfter (S.Passed n) v = Accepted v
+outcomeAfter (S.Refused w) v = O.Refused w
 
 -- of case bytes b, certificate bytes q and the answer r
 pub record Checked (b q : List ℕ) (r : Outcome) : Type 0 where

@@ -4,12 +4,12 @@ use cases::Stage;
 use market::Counts;
 use market::Delivery;
 use market::First;
+use market::Grains;
 use market::Outcome;
 use market::Refusal;
 use market::Valuation;
 ghost use mathlib.Core.Path.{_≡_};
 ghost use lib.ListN.{length};
-ghost use Rattle.market.specs.declared.Outcome.the-variants.{Accepted};
 ghost use Rattle.market.specs.CaseFile.{caseOf};
 ghost use Rattle.market.specs.Certificate.{certificateOf};
 ghost use Rattle.market.specs.Records.{countsIn};
@@ -17,7 +17,7 @@ ghost use Rattle.market.specs.Refusals.{firstOf};
 ghost use Rattle.market.specs.Outcome.{grounds, valuation, priceAnswer, priceBuffer, chargeAnswer, chargeBuffer};
 ghost use Rattle.cases.specs.Stages.{stageOf};
 ghost use Rattle.prices.specs.Standing.{Standing};
-ghost use Rattle.outcomes.specs.Checked.{AcceptedWith, Checked};
+ghost use Rattle.outcomes.specs.Checked.{outcomeAfter, AcceptedWith, Checked};
 
 // 1 to 14: the counts of a case and a certificate that have passed them, or the first ground that holds.
 fn rows_stage(b: &[u8], q: &[u8]) -> Stage
@@ -35,26 +35,41 @@ fn rows_stage(b: &[u8], q: &[u8]) -> Stage
 }
 
 // Cost, bound and gap of a certificate that stands.
-fn valued(b: &[u8], q: &[u8], n: Counts) -> Outcome
+fn valued(b: &[u8], q: &[u8], n: Counts) -> Valuation
     requires { ⌜ Standing (now b) (now q) (n .resources) (n .zones) (n .flowgates) ⌝ }
-    ensures { λ r. ⌜ r ≡ Accepted (valuation (caseOf (now (b .entry))) (certificateOf (now (q .entry)))) ⌝ }
+    ensures { λ v. ⌜ v ≡ valuation (caseOf (now (b .entry))) (certificateOf (now (q .entry))) ⌝ }
 {
     let cost = costs::cost(b, q, n.resources, n.zones, n.flowgates);
     let bound = bounds::bound(b, q, n.resources, n.zones, n.flowgates);
     let gap = units::grains_difference(cost, bound);
-    Outcome::Accepted(Valuation { cost, bound, gap })
+    Valuation { cost, bound, gap }
 }
 
-// Checks a certificate against its case.
+// The answer after 1 to 14: accepted with these values, or refused.
+fn outcome_after(stage: Stage, values: Valuation) -> Outcome
+    ensures { λ r. ⌜ r ≡ outcomeAfter stage values ⌝ }
+{
+    match stage {
+        Stage::Passed(_) => Outcome::Accepted(values),
+        Stage::Refused(why) => Outcome::Refused(why),
+    }
+}
+
+// Checks a certificate against its case. What is refused has no values.
 pub fn check_certificate(b: &[u8], q: &[u8]) -> Outcome
     ensures { λ r. ⌜ Checked (now (b .entry)) (now (q .entry)) r ⌝ }
 {
     let stage = rows_stage(b, q);
-    let Stage::Refused(why) = stage else {
-        let n = cases::counts_at(b);
-        return valued(b, q, n);
+    let Stage::Passed(n) = stage else {
+        let none = Valuation {
+            cost: Grains(0),
+            bound: Grains(0),
+            gap: Grains(0),
+        };
+        return outcome_after(stage, none);
     };
-    Outcome::Refused(why)
+    let values = valued(b, q, n);
+    outcome_after(stage, values)
 }
 
 // 15, then the LMPs and zone prices of an accepted certificate.

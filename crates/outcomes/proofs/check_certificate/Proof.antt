@@ -1,42 +1,36 @@
 -- `outcomes::check_certificate` meets its contract. Assumes nothing.
-use mathlib.Core.Path.{_≡_}
-use native.Mathlib.Omega.{arith}
+use mathlib.Core.Path.{_≡_, _∙_, ap}
 use borrow.Author.Needs.{needs}
+use Rattle.market.specs.declared.Outcome.the-variants.{Accepted}
 use Rattle.market.specs.CaseFile.{caseOf}
 use Rattle.market.specs.Outcome.{grounds}
 use Rattle.market.specs.Records.{countsIn}
 use Rattle.market.specs.Refusals.{firstOf}
 use Rattle.cases.specs.declared.Stage.the-variants.{Passed, Refused}
 use Rattle.cases.specs.Stages.{stageOf}
-use Rattle.outcomes.specs.Checked.{AcceptedWith}
-use Rattle.outcomes.proofs.Passing.{accepted-with, has-head, all-standing, accepted, refused, checked}
+use Rattle.outcomes.proofs.Passing.{accepted-by, all-standing, accepted, after-refused, checked}
 use Rattle.outcomes.proofs.check_certificate.Statement.{statement}
 use Rattle.outcomes.proofs.check_certificate.Tie as tie
 
-counts-at-requires : tie.Need-counts-at-requires
-counts-at-requires c κs =
-    let s = c .before .before .before .before .before in
-    let h : stageOf (countsIn (caseOf (s .args .b .now))) (firstOf (grounds (s .args .b .now) (s .args .q .now))) ≡ Passed (c .enum-told .given .0 .0) = cc in
-    omega (arith, has-head (s .args .b .now) (s .args .q .now) _ h)
-
--- past 1 to 14, with the counts that are read
-passed : (c : tie.After-counts-at) → let s = c .before .before .before .before .before .before in AcceptedWith (s .args .b .now) (s .args .q .now) (c .counts-at .result)
-passed c =
-    let s = c .before .before .before .before .before .before in
-    let h : stageOf (countsIn (caseOf (s .args .b .now))) (firstOf (grounds (s .args .b .now) (s .args .q .now))) ≡ Passed (c .before .enum-told .given .0 .0) = cc in
-    accepted-with (s .args .b .now) (s .args .q .now) _ _ h (c .counts-at .ensures)
-
 valued-requires : tie.Need-valued-requires
-valued-requires c κs = let s = c .before .before .before .before .before .before in all-standing (s .args .b .now) (s .args .q .now) _ (passed c)
+valued-requires c κs =
+    let s = c .before .before .before .before .before .before in
+    let h : stageOf (countsIn (caseOf (s .args .b .now))) (firstOf (grounds (s .args .b .now) (s .args .q .now))) ≡ Passed (c .before .stage .given .0 .0) = cc in
+    all-standing (s .args .b .now) (s .args .q .now) _ (accepted-by (s .args .b .now) (s .args .q .now) _ h)
 
 returns : tie.Need-returns
-returns c = let s = c .before .before .before .before .before .before .before in checked (s .args .b .now) (s .args .q .now) _ (accepted (s .args .b .now) (s .args .q .now) _ _ (passed (c .before)) (c .valued .ensures))
+returns c =
+    let s = c .before .before .before .before .before .before in
+    let d = c .before .before .before .rows-stage in
+    let h : d .result ≡ Refused (c .before .enum-told .given .0 .0) = cc in
+    checked (s .args .b .now) (s .args .q .now) _ (after-refused (s .args .b .now) (s .args .q .now) _ _ _ _ (d .ensures) h (c .outcome-after .ensures))
 
 returns-2 : tie.Need-returns-2
 returns-2 c =
-    let s = c .before .before .before .before .before .before in
-    let h : stageOf (countsIn (caseOf (s .args .b .now))) (firstOf (grounds (s .args .b .now) (s .args .q .now))) ≡ Refused (c .before .stage .given .0 .0) = cc in
-    checked (s .args .b .now) (s .args .q .now) _ (refused (s .args .b .now) (s .args .q .now) _ h)
+    let s = c .before .before .before .before .before .before .before .before in
+    let h : stageOf (countsIn (caseOf (s .args .b .now))) (firstOf (grounds (s .args .b .now) (s .args .q .now))) ≡ Passed (c .before .before .before .stage .given .0 .0) = cc in
+    checked (s .args .b .now) (s .args .q .now) _
+    (accepted (s .args .b .now) (s .args .q .now) _ _ (accepted-by (s .args .b .now) (s .args .q .now) _ h) (c .outcome-after2 .ensures ∙ ap Accepted (c .before .valued .ensures)))
 
 pub check-certificate-spec : {M : Type 1} → statement M
 check-certificate-spec =
@@ -45,7 +39,8 @@ check-certificate-spec =
     (λ c κs. search needs)
     (λ c. search needs)
     (λ c. search needs)
-    counts-at-requires
-    valued-requires
+    (λ c κs. search needs)
     returns
+    valued-requires
+    (λ c κs. search needs)
     returns-2)

@@ -5,9 +5,8 @@ use Rattle.market.specs.Bound.{bound}
 use Rattle.market.specs.Cost.{cost}
 use Rattle.market.specs.Certificate.{certificateOf}
 use Rattle.market.specs.CaseFile.{caseOf}
-use Rattle.market.specs.declared.Outcome.the-variants.{Accepted}
 use lib.IntN.{_-ℤ_}
-use mathlib.Core.Path.{_≡_, _∙_, ap}
+use mathlib.Core.Path.{_≡_, _∙_}
 use borrow.Author.Needs.{needs}
 use Rattle.outcomes.proofs.valued.Statement.{statement}
 use Rattle.outcomes.proofs.valued.Tie as tie
@@ -22,7 +21,7 @@ gap-is c = c .grains-difference .ensures ∙ rw (c .before .before .cost .ensure
 
 returns : tie.Need-returns
 unfolding valuation
-returns c = ap Accepted (λ i. record { cost = (c .before .before .cost .ensures) i; bound = (c .before .bound .ensures) i; gap = (gap-is c) i })
+returns c = (λ i. record { cost = (c .before .before .cost .ensures) i; bound = (c .before .bound .ensures) i; gap = (gap-is c) i })
 
 pub valued-spec : {M : Type 1} → statement M
 valued-spec = tie.close (tie.spec (λ c κs. search needs) (λ c κs. search needs) grains-difference-requires returns)
