@@ -14,7 +14,7 @@ use Rattle.market.specs.Bytes.{u32At}
 use Rattle.market.specs.Case.{Case}
 use Rattle.market.specs.CaseFile.{caseOf}
 use Rattle.market.specs.Availability.{onLine}
-use Rattle.market.specs.UpperBounds.{Provided, services}
+use Rattle.market.specs.UpperBounds.{Service, energy, regulation, contingency, onLineShortTerm, offLineShortTerm, Provided}
 use Rattle.market.specs.Certificate.{Certificate, certificateOf}
 use Rattle.market.specs.Prices.{LMP, zonePrices}
 use Rattle.market.specs.Refusals.{numberOf, placeOf, Finding, clear, holds, unless}
@@ -56,11 +56,15 @@ zoneWord = 122 ∷ 111 ∷ 110 ∷ 101 ∷ []
 abbrev pub refusedWord : List ℕ
 refusedWord = 114 ∷ 101 ∷ 102 ∷ 117 ∷ 115 ∷ 101 ∷ 100 ∷ []
 
+-- what a resource's line shows: a list of its own, as quantities that are added later are not printed (02)
+abbrev pub printedServices : List Service
+printedServices = energy ∷ regulation ∷ contingency ∷ onLineShortTerm ∷ offLineShortTerm ∷ []
+
 -- number, on-line, e g c s o, LMP
 unfoldable pub resourceLine : Case → Certificate → ℕ → List ℕ
 resourceLine c k i =
     line (decimal (pos (suc i)))
-    (cond (onLine (c .resource i)) (pos 1) (pos 0) ∷ (map (λ s. pos (k .amount (Provided i s))) services ++ (LMP c (k .price) i ∷ [])))
+    (cond (onLine (c .resource i)) (pos 1) (pos 0) ∷ (map (λ s. pos (k .amount (Provided i s))) printedServices ++ (LMP c (k .price) i ∷ [])))
 
 -- number, four prices
 unfoldable pub zoneLine : Certificate → ℕ → List ℕ
