@@ -122,7 +122,7 @@ pub fn heads(pair: &Pair) -> Vec<Damaged> {
     let certificate = pair.certificate_file();
     let counts = pair.case.counts;
     let mut list = Vec::new();
-    for version in [0, 2, 255] {
+    for version in [0, 128, 255] {
         list.push(Damaged {
             what: format!("case version {version}"),
             case: with_byte(&case, 4, version),

@@ -110,7 +110,7 @@ fn certificate_heads_are_looked_at_in_order() {
     assert_eq!(check_certificate(&case, &certificate), refused(Refusal::CertificateSize));
     certificate[5] = 2;
     assert_eq!(check_certificate(&case, &certificate), refused(Refusal::CertificateCounts));
-    certificate[4] = 2;
+    certificate[4] = 0;
     assert_eq!(check_certificate(&case, &certificate), refused(Refusal::CertificateVersion));
     certificate[3] += 1;
     assert_eq!(check_certificate(&case, &certificate), refused(Refusal::CertificateLength));

@@ -98,7 +98,7 @@ refusals =
     record { given = numbered (caseAnswer K); says = pos 0 ∷ [] }
     ∷ record { given = numbered (caseAnswer (take 169 K)); says = pos 1 ∷ [] }
     ∷ record { given = numbered (caseAnswer (change 0 (u32Bytes 165) (take 169 K))) ++ numbered (caseAnswer (change 0 (u32Bytes 166) (take 170 K))); says = pos 1 ∷ pos 4 ∷ [] }
-    ∷ record { given = numbered (caseAnswer (change 4 (2 ∷ []) K)); says = pos 2 ∷ [] }
+    ∷ record { given = numbered (caseAnswer (change 4 (0 ∷ []) K)); says = pos 2 ∷ [] }
     ∷ record { given = numbered (caseAnswer (change 6 (9 ∷ []) K)); says = pos 3 ∷ [] }
     ∷ record { given = numbered (caseAnswer (change 0 (u32Bytes 337) K ++ (0 ∷ []))); says = pos 4 ∷ [] }
     ∷ record { given = numbered (caseAnswer (demandTo 128000001 K)); says = pos 5 ∷ [] }
@@ -107,7 +107,7 @@ refusals =
     ∷ record { given = numbered (caseAnswer fiveToSeven) ++ numbered (caseAnswer sixAndSeven); says = pos 5 ∷ pos 6 ∷ [] }
     ∷ record { given = run K (take 43 Q); says = refused 8 0 }
     ∷ record { given = run K (change 0 (u32Bytes 39) (take 43 Q)) ++ run K (change 0 (u32Bytes 40) (take 44 Q)); says = refused 8 0 ++ refused 11 0 }
-    ∷ record { given = run K (change 4 (2 ∷ []) Q); says = refused 9 0 }
+    ∷ record { given = run K (change 4 (0 ∷ []) Q); says = refused 9 0 }
     ∷ record { given = run K (change 5 (2 ∷ []) Q); says = refused 10 0 }
     ∷ record { given = run K (change 0 (u32Bytes 97) Q ++ (0 ∷ [])); says = refused 11 0 }
     ∷ record { given = run K (row1To 400000001 Q); says = refused 12 0 }
