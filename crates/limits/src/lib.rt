@@ -100,10 +100,7 @@ fn at_least_500(output: Kw) -> bool
     ensures { λ t. ⌜ t ≡ atLeast500 (output .0) ⌝ }
 {
     let v = output.0;
-    if v >= 500 {
-        return true;
-    }
-    v <= -500
+    (v >= 500) | (v <= -500)
 }
 
 fn above_zero(output: Kw) -> bool
@@ -113,70 +110,38 @@ fn above_zero(output: Kw) -> bool
     v > 0
 }
 
-// ---- on-line (002, 3.1)
+// ---- on-line (002, 3.1), by `&` and `|`, which work out both sides: kind and status follow no order that a processor could
+// foresee, and a test in vain costs less than a wrong branch
 
 // Kind 1.
 fn conventional(t: State) -> bool
     ensures { λ v. ⌜ v ≡ conventionalOnLine t ⌝ }
 {
-    if t.kind != 1 {
-        return false;
-    }
-    if !at_least_500(t.output) {
-        return false;
-    }
-    if t.breaker != 1 {
-        return false;
-    }
     let trip = t.trip;
-    trip.0 > 15
+    (t.kind == 1) & at_least_500(t.output) & (t.breaker == 1) & (trip.0 > 15)
 }
 
 // Kind 2.
 fn intermittent(t: State) -> bool
     ensures { λ v. ⌜ v ≡ intermittentOnLine t ⌝ }
 {
-    if t.kind != 2 {
-        return false;
-    }
     let status = t.status;
-    if !status.committed() {
-        return false;
-    }
-    if t.breaker != 1 {
-        return false;
-    }
-    above_zero(t.output)
+    (t.kind == 2) & status.committed() & (t.breaker == 1) & above_zero(t.output)
 }
 
 // Kind 3.
 fn external(t: State) -> bool
     ensures { λ v. ⌜ v ≡ externalOnLine t ⌝ }
 {
-    if t.kind != 3 {
-        return false;
-    }
     let status = t.status;
-    if !status.available() {
-        return false;
-    }
-    if t.breaker != 1 {
-        return false;
-    }
-    status.active_schedule()
+    (t.kind == 3) & status.available() & (t.breaker == 1) & status.active_schedule()
 }
 
 // Of its state alone.
 pub fn state_on_line(t: State) -> bool
     ensures { λ v. ⌜ ((s : Figures) → t ≡ stateOf s → v ≡ onLine s) ⌝ }
 {
-    if conventional(t) {
-        return true;
-    }
-    if intermittent(t) {
-        return true;
-    }
-    external(t)
+    conventional(t) | intermittent(t) | external(t)
 }
 
 pub fn on_line(r: Resource) -> bool

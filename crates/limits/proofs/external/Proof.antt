@@ -1,5 +1,4 @@
--- `limits::external` meets its contract: by the four tests in turn. Assumes nothing.
-use borrow.Author.Tests.{eq-eqb, ne-eqb, not-true, not-false}
+-- `limits::external` meets its contract: it is the definition's four tests. Assumes nothing.
 use borrow.Author.Needs.{needs}
 use Rattle.limits.specs.OnLine.{externalOnLine}
 use Rattle.limits.proofs.external.Statement.{statement}
@@ -7,36 +6,7 @@ use Rattle.limits.proofs.external.Tie as tie
 
 returns : tie.Need-returns
 unfolding externalOnLine
-returns c = rw (ne-eqb _ _ (c .if1 .taken))
-
-returns-2 : tie.Need-returns-2
-unfolding externalOnLine
-returns-2 c = rw (
-  eq-eqb _ _ (c .before .before .before .if1 .left),
-  ← (c .before .available .ensures),
-  not-true (c .before .available .result) (c .if2 .taken),
-)
-
-returns-3 : tie.Need-returns-3
-unfolding externalOnLine
-returns-3 c = rw (
-  eq-eqb _ _ (c .before .before .before .before .before .if1 .left),
-  ← (c .before .before .before .available .ensures),
-  not-false (c .before .before .before .available .result) (c .before .before .if2 .left),
-  ne-eqb _ _ (c .if3 .taken),
-)
-
-returns-4 : tie.Need-returns-4
-unfolding externalOnLine
-returns-4 c = rw (
-  eq-eqb _ _ (c .before .before .before .before .before .before .if1 .left),
-  ← (c .before .before .before .before .available .ensures),
-  not-false (c .before .before .before .before .available .result) (c .before .before .before .if2 .left),
-  eq-eqb _ _ (c .before .if3 .left),
-  c .active-schedule .ensures,
-)
+returns c = rw (c .before .before .available .ensures, c .active-schedule .ensures)
 
 pub external-spec : {M : Type 1} → statement M
-external-spec =
-    tie.close
-    (tie.spec returns (λ c κs. search needs) returns-2 returns-3 (λ c κs. search needs) returns-4)
+external-spec = tie.close (tie.spec (λ c κs. search needs) (λ c κs. search needs) returns)
