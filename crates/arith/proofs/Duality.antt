@@ -7,7 +7,7 @@ use native.Mathlib.Omega.{arith}
 use lib.IntN.{ℤ, pos, negℤ, _+ℤ_, _-ℤ_, _*ℤ_, *ℤ-comm}
 use lib.Signed.{_≤ℤ_}
 use Rattle.arith.specs.Sums.{minℤ, sumOf, Each}
-use Rattle.arith.specs.Programme.{Programme, net, slack, cost, least, bound, rowCharge, columnCharge, charges, RowFits, ColumnFits, Feasible}
+use Rattle.arith.specs.LinearProgramme.{LinearProgramme, net, slack, cost, least, bound, rowCharge, columnCharge, charges, RowFits, ColumnFits, Feasible}
 use Rattle.arith.proofs.Order.{+ℤ-mono, *ℤ-nonneg, ≤ℤ-total, min-le-l, min-le-r, ≤ℤ-sub, sub-≤ℤ, ≤ℤ-trans}
 use Rattle.arith.proofs.Linear.{sorted, count}
 use Rattle.arith.proofs.Lists.{each-imp, each-join, each-map}
@@ -27,7 +27,7 @@ below-min n x u h k = go (≤ℤ-total (pos 0) n)
     go (inl p) = ≤ℤ-trans (min-le-l (pos 0) (n *ℤ u)) (*ℤ-nonneg p h)
     go (inr p) = ≤ℤ-trans (min-le-r (pos 0) (n *ℤ u)) (flip n x u (*ℤ-nonneg (neg-nonneg n p) (≤ℤ-sub k)))
 
-module _ {Row Column : Type 0} (L : Programme Row Column) where
+module _ {Row Column : Type 0} (L : LinearProgramme Row Column) where
   -- the rows' prices times the rows' amounts, by rows and by columns
   cross : (Row → ℤ) → (Column → ℤ) → ℤ
   cross y x = sumOf (λ r. y r *ℤ sumOf (λ j. L .coefficient r j *ℤ x j) (L .columns)) (L .rows)

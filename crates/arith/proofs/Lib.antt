@@ -3,8 +3,12 @@ pub mod Order
 pub mod Linear
 pub mod Magnitudes
 pub mod Sums
+pub mod NaturalSums
+pub mod LoopSums
 pub mod Lists
+pub mod AllTests
 pub mod Picks
 pub mod Duality
 pub mod Machine
 pub mod Buffers
+pub mod Tables

@@ -3,13 +3,13 @@
 -- `sorted` brings everything to one side, multiplies out and sorts the monomials under a predicate that does not
 -- compute; `count` takes that predicate to an inequality of natural numbers. Hypotheses are left unbound on the clause's
 -- left, so that they stand in the goal. At most 32 monomials: prove over variables, then apply to the sums.
-use mathlib.Core.Path.{_≡_, refl, sym, _∙_, ap, subst}
+use mathlib.Core.Path.{_≡_, refl}
 use mathlib.Core.Logic.{_↔_}
-use Prim.Native.Nat.{ℕ, zero, suc, _+_, _*_, _-_, _<_, _≤_}
+use Prim.Native.Nat.{ℕ, suc, _+_, _*_, _≤_}
 use native.Mathlib.Omega.{arith}
-use lib.IntN.{ℤ, pos, negsuc, negℤ, subℕ, _+ℤ_, _-ℤ_, _*ℤ_, natAbs, +ℤ-assoc, negℤ-+ℤ, negℤ-negℤ, *ℤ-comm}
-use lib.Signed.{_≤ℤ_, _<ℤ_, leZ}
-use Rattle.arith.proofs.Parts.{P, N, le-out, le-in, eq-out, eq-in, P-neg, N-neg, P-mul, N-mul, P-add, N-add, add-fact, P-or-N, abs-parts}
+use lib.IntN.{ℤ, pos, negsuc, negℤ, _+ℤ_, _*ℤ_, +ℤ-assoc, negℤ-+ℤ, negℤ-negℤ, *ℤ-comm}
+use lib.Signed.{_≤ℤ_, _<ℤ_}
+use Rattle.arith.proofs.Parts.{P, N, eq-in, P-neg, N-neg, P-mul, N-mul, add-fact}
 use Rattle.arith.proofs.Order.{zl, parts, *ℤ-+ℤ, +ℤ-*ℤ, *ℤ-neg, neg-*ℤ, *ℤ-assoc, *ℤ-left-comm}
 
 -- zero, shut, so that a sum with it does not compute

@@ -1,13 +1,13 @@
 -- Absolute values: of sums, of products; and that a number fits a signed width, as a goal of natural numbers.
-use mathlib.Core.Path.{_≡_, refl, sym, _∙_, ap, subst}
-use Prim.Native.Nat.{ℕ, zero, suc, _+_, _*_, _-_, _^_, _<_, _≤_, min, max}
+use mathlib.Core.Path.{_≡_}
+use Prim.Native.Nat.{ℕ, suc, _+_, _*_, _^_, _<_, _≤_, max}
 use native.Mathlib.Omega.{arith}
 use native.Mathlib.Nat.{mul-le-mul}
 use lib.IntN.{ℤ, pos, negsuc, negℤ, _+ℤ_, _-ℤ_, _*ℤ_, natAbs}
-use lib.Signed.{_≤ℤ_, _<ℤ_, mag}
-use mir.Syntax.{Width, w64}
+use lib.Signed.{_≤ℤ_, mag}
+use mir.Syntax.{Width}
 use mir.Val.{SFits, hbits}
-use Rattle.arith.proofs.Parts.{P, N, le-out, le-in, eq-out, eq-in, P-neg, N-neg, P-mul, N-mul, P-add, N-add, add-fact, abs-parts, part}
+use Rattle.arith.proofs.Parts.{P, N, le-out, P-neg, N-neg, P-mul, N-mul, P-add, N-add, abs-parts, part}
 use Rattle.arith.specs.Sums.{minℤ}
 use Rattle.arith.proofs.Order.{zl, P-min, N-min}
 

@@ -1,14 +1,14 @@
 -- The laws of the ordered ring of the integers that `lib.IntN` and `lib.Signed` lack, and of the smaller of two.
 use mathlib.Core.Path.{_≡_, refl, sym, _∙_, ap, subst}
-use Prim.Native.Nat.{ℕ, zero, suc, _+_, _*_, _-_, _<_, _≤_, min, max}
+use Prim.Native.Nat.{ℕ, _+_, _*_, _-_, _≤_, min, max}
 use native.Mathlib.Omega.{arith}
-use lib.IntN.{ℤ, pos, negsuc, negℤ, subℕ, _+ℤ_, _-ℤ_, _*ℤ_, natAbs, *ℤ-comm}
+use lib.IntN.{ℤ, pos, negsuc, negℤ, _+ℤ_, _-ℤ_, _*ℤ_, *ℤ-comm}
 use lib.Dec.{T, nleb→lt}
-use lib.Signed.{_≤ℤ_, _<ℤ_, leZ}
+use lib.Signed.{_≤ℤ_, leZ}
 use mathlib.Core.Logic.{_⊎_, inl, inr}
 use mathlib.Core.Bool.{Bool, true, false, not, cond}
 use Rattle.arith.specs.Sums.{minℤ}
-use Rattle.arith.proofs.Parts.{P, N, le-out, le-in, lt-out, lt-in, eq-out, eq-in, P-neg, N-neg, P-mul, N-mul, P-add, N-add, add-fact, P-or-N, abs-parts, part}
+use Rattle.arith.proofs.Parts.{P, N, le-out, le-in, lt-out, lt-in, eq-out, eq-in, P-neg, N-neg, P-mul, N-mul, add-fact, part}
 
 -- `omega zl` reads orders and equations of integers by their parts
 pub ruleset zl = (arith, le-out, le-in, lt-out, lt-in, eq-out, eq-in)

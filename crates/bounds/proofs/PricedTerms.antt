@@ -11,7 +11,8 @@ use lib.IntN.{ℤ, pos, natAbs, _+ℤ_, +ℤ-idr}
 use Rattle.arith.specs.Sums.{sumOf, upto, across}
 use Rattle.arith.proofs.Lists.{each-upto}
 use Rattle.arith.proofs.Linear.{sorted, count}
-use Rattle.arith.proofs.Sums.{sum-each-ext, append-sums, sum-add, sum-map, sum-across, total-mono, total-suc, total-longer}
+use Rattle.arith.proofs.Sums.{sum-each-ext, append-sums, sum-add, sum-map, sum-across}
+use Rattle.arith.proofs.NaturalSums.{total-mono, total-suc, total-longer}
 use Rattle.market.specs.Case.{Case, Curve, curves, operating, regulatingPlusSpinning, regulating, shortTerm, energySteps, curveSteps}
 use Rattle.market.specs.CaseFile.{caseOf}
 use Rattle.market.specs.declared.CurveSteps.{CurveSteps}

@@ -15,7 +15,7 @@ use Rattle.market.specs.Limits.{MAX, MIN, HI, LO}
 use Rattle.market.specs.Rows.{Balance, Market, Zone, Flowgate, Limited, maxWithReserve, maxWithShortTerm, minimum, high, low, limits, rows, rightSide}
 use Rattle.market.specs.Certificate.{Prices, certificateOf}
 use Rattle.market.specs.Records.{millicents, power, reservePricesOf, limitPricesOf, zoneRequirementsOf}
-use Rattle.market.proofs.NetPrices.{rows-sum}
+use Rattle.market.proofs.TakenByRows.{rows-sum}
 use Rattle.market.proofs.Ranges.{CaseRanges}
 use Rattle.market.proofs.Sizes.{right-size}
 use Rattle.records.proofs.Places.{resources-is, zones-is, flowgates-is}

@@ -7,7 +7,8 @@ use native.Mathlib.Omega.{arith}
 use lib.IntN.{ℤ, pos, natAbs, _-ℤ_, _*ℤ_}
 use Rattle.arith.proofs.Order.{pos-sub}
 use Rattle.arith.proofs.Magnitudes.{abs-mul}
-use Rattle.arith.proofs.Sums.{upto-size, sum-each-ext}
+use Rattle.arith.proofs.Sums.{sum-each-ext}
+use Rattle.arith.proofs.NaturalSums.{upto-size}
 use Rattle.arith.proofs.Lists.{each-upto}
 use Rattle.arith.specs.Sums.{sumOf, upto}
 use Rattle.market.specs.Case.{widthOf}

@@ -6,7 +6,7 @@ use native.Mathlib.Omega.{arith}
 use lib.IntN.{pos, natAbs, negℤ, _+ℤ_, _-ℤ_}
 use Rattle.arith.specs.Sums.{sumOf, totalOf, upto}
 use Rattle.arith.proofs.Magnitudes.{abs-add, abs-neg, abs-sub}
-use Rattle.arith.proofs.Sums.{upto-size, sum-size}
+use Rattle.arith.proofs.NaturalSums.{upto-size, sum-size}
 use Rattle.market.specs.Case.{Case, Curve, curves, operating, regulatingPlusSpinning, regulating, shortTerm}
 use Rattle.market.specs.CaseFile.{caseOf}
 use Rattle.market.specs.UpperBounds.{Schedule, Service, Provided, Cleared, energy, regulation, contingency, offLineShortTerm}

@@ -8,7 +8,7 @@ use native.Mathlib.Omega.{arith}
 use lib.ListN.{length, getD, take, drop, take-append-drop}
 use lib.Seq.{take-suc}
 use Rattle.arith.specs.Sums.{totalOf}
-use Rattle.arith.proofs.Sums.{total-append}
+use Rattle.arith.proofs.NaturalSums.{total-append}
 use Rattle.market.specs.Numbers.{Field, u8, fieldWidth, fieldAt, numbersAt}
 
 -- the numbers of two lists of fields, one behind the other

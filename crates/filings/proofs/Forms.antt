@@ -5,7 +5,7 @@ use mathlib.Core.List.{List, [], _∷_}
 use Prim.Native.Nat.{ℕ, _+_, _≤_}
 use lib.Dec.{T, leb, eqb, leb→le, eqb→eq}
 use lib.ListN.{length}
-use Rattle.arith.proofs.Lists.{and-split, and-each}
+use Rattle.arith.proofs.AllTests.{and-split, and-each}
 use Rattle.market.specs.declared.Refusal.the-variants as R
 use Rattle.market.specs.declared.Counts.{Counts}
 use Rattle.market.specs.Bytes.{u8At, u32At}
@@ -16,7 +16,7 @@ use Rattle.market.specs.Records.{countsIn}
 use Rattle.market.specs.Refusals.{firstOf, AllClear}
 use Rattle.market.specs.Outcome.{sameCounts}
 use Rattle.market.proofs.Grounds.{unless-clear}
-use Rattle.market.proofs.Families.{CountRanges}
+use Rattle.market.proofs.LargestCase.{CountRanges}
 use Rattle.cases.specs.Stages.{stageOf}
 use Rattle.cases.specs.declared.Stage.the-variants.{Passed, Refused}
 use Rattle.entries.specs.CertificateBytes.{CertificateBytes}

@@ -6,7 +6,7 @@ use Prim.Native.Nat.{ℕ, _+_, _*_}
 use native.Mathlib.Omega.{arith}
 use lib.IntN.{pos, negℤ}
 use Rattle.arith.specs.Sums.{upto, all}
-use Rattle.arith.proofs.Lists.{all-join, all-map, all-across}
+use Rattle.arith.proofs.AllTests.{all-append, all-map, all-across}
 use Rattle.market.specs.declared.Counts.{Counts}
 use Rattle.market.specs.Bytes.{u32At, i32At, within, withinℤ}
 use Rattle.market.specs.Case.{Case, curves}
@@ -57,7 +57,7 @@ module _ (q : List ℕ) where
 by-families : (t : Row → Bool) (c : Case) → all t (rows c) ≡ (t Balance && (all t marketRows && (all t (zoneRows c) && (all t (flowgateRows c) && all t (limitRows c)))))
 unfolding rows all
 by-families t c =
-    rw (all-join t marketRows (zoneRows c ++ (flowgateRows c ++ limitRows c)), all-join t (zoneRows c) (flowgateRows c ++ limitRows c), all-join t (flowgateRows c) (limitRows c))
+    rw (all-append t marketRows (zoneRows c ++ (flowgateRows c ++ limitRows c)), all-append t (zoneRows c) (flowgateRows c ++ limitRows c), all-append t (flowgateRows c) (limitRows c))
 
 -- as the code goes through them
 abbrev pub pricesAt : List ℕ → Counts → Bool

@@ -10,7 +10,8 @@ use lib.ListN.{length, drop}
 use lib.Signed.{_≤ℤ_, leZ}
 use Rattle.arith.specs.Sums.{sumOf, Each, all}
 use Rattle.arith.proofs.Linear.{sorted, count}
-use Rattle.arith.proofs.Lists.{all-each, and-split, each-imp, each-split}
+use Rattle.arith.proofs.Lists.{each-imp, each-split}
+use Rattle.arith.proofs.AllTests.{all-each, and-split}
 use Rattle.arith.proofs.Duality as D
 use Rattle.market.specs.declared.Refusal.the-variants.{PriceRange, AboveBound, RowBroken}
 use Rattle.market.specs.declared.Outcome.the-variants.{Accepted}
@@ -19,7 +20,7 @@ use Rattle.market.specs.declared.Valuation.{Valuation}
 use Rattle.market.specs.Case.{Case}
 use Rattle.market.specs.CaseFile.{caseOf}
 use Rattle.market.specs.UpperBounds.{quantities, upperBound, Schedule}
-use Rattle.market.specs.Rows.{Row, Sense, equal, atLeast, rows, sense, slack, Bounded, Met}
+use Rattle.market.specs.Rows.{Sense, equal, atLeast, rows, sense, slack, Bounded, Met}
 use Rattle.market.specs.Certificate.{Certificate, Prices, certificateOf, lowestPrice, highestPrice}
 use Rattle.market.specs.Cost.{cost}
 use Rattle.market.specs.Bound.{bound}
@@ -27,7 +28,7 @@ use Rattle.market.specs.Charges.{charges, chargeCount}
 use Rattle.market.specs.Refusals.{Finding, clear, holds, firstOf, outcomeOf, deliveryOf, bufferAfter, AllClear}
 use Rattle.market.specs.Outcome.{outcome, grounds, valued, valuation, caseGrounds, certificateGrounds, priceRight, withinBound, rowMet, listedCharges, chargeGrounds, chargeAnswer, chargeBuffer}
 use Rattle.market.specs.Promise.{Demand3}
-use Rattle.market.proofs.CaseProgramme.{programme, parts, PriceMay, PricesMay, cost-is, bound-is, charges-are, feasible}
+use Rattle.market.proofs.CaseLinearProgramme.{programme, parts, PriceMay, PricesMay, cost-is, bound-is, charges-are, feasible}
 use Rattle.market.proofs.Lengths.{charge-count}
 use Rattle.market.proofs.Grounds.{none-holds, unless-clear, none-fails, meets-Meets}
 

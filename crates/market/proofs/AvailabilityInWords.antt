@@ -1,21 +1,18 @@
 -- On-line kind by kind; limits, upper bounds and spin flag by flag.
 use mathlib.Core.Bool.{Bool, true, false, _||_}
-use mathlib.Core.List.{[], _∷_}
 use mathlib.Core.Logic.{_⊎_, inl, inr}
-use mathlib.Core.Path.{_≡_, refl, sym, _∙_, ap}
-use Prim.Native.Nat.{ℕ, _+_, _*_, _-_, _/_, _%_, _≤_, _<_, min, max}
-use native.Mathlib.Decide.{decLe}
+use mathlib.Core.Path.{_≡_, refl}
+use Prim.Native.Nat.{ℕ, _*_, _/_, _%_, _≤_, _<_}
 use native.Mathlib.Omega.{arith}
-use lib.IntN.{ℤ, pos, negℤ, _-ℤ_}
+use lib.IntN.{pos, negℤ}
 use lib.Signed.{_≤ℤ_, _<ℤ_}
-use Rattle.arith.proofs.Parts.{add-fact, le-in, P-neg, N-neg}
-use Rattle.arith.proofs.Order.{pos-sub}
 use Rattle.market.specs.Case.{Case, Resource, Reserve, contingencyReserve}
 use Rattle.market.specs.Availability.{onLine}
 use Rattle.market.specs.Limits.{MAX, MIN, HI, LO}
 use Rattle.market.specs.UpperBounds.{contingency, RAMP, SHARE, onLineBound, serviceBound, upperBound}
 use Rattle.market.specs.Rows.{none, one, spins}
-use Rattle.market.specs.AvailabilityInWords.{BitSet, OnLine, Closed, OneOf, LeastOf, LargestOf, LeastOnLine, OnLineInWords, LimitsInWords, BoundsInWords, SpinInWords, AvailabilityInWords}
+use Rattle.market.specs.AvailabilityInWords.{BitSet, OnLine, Closed, LeastOnLine, OnLineInWords, LimitsInWords, BoundsInWords, SpinInWords, AvailabilityInWords}
+use Rattle.market.proofs.LeastAndLargest.{least-of-two, least-of-three, larger-of-difference, largest-with}
 use Rattle.market.proofs.Tests.{Decides, true-exactly, reworded, both, either, eq-test, lt-test, leℤ-test, ltℤ-test}
 
 -- ---- on-line
@@ -70,47 +67,6 @@ on-line-in-words r =
       external = λ e. true-exactly (reworded (on-line-test r) (of-external r e) (λ h. inr (((e, h .0), h .1), h .2)));
       no-other-kind = λ e. of-kinds r (true-exactly (on-line-test r) .0 e);
     }
-
--- ---- the least and the largest of some numbers
-module _ (n : ℕ) where
-  least-of-two : (a b : ℕ) → n ≡ min a b → LeastOf (a ∷ b ∷ []) n
-  least-of-two a b e = ((omega arith, (omega arith, tt)), go (decLe a b))
-    where
-      go : Dec (a ≤ b) → OneOf (a ∷ b ∷ []) n
-      go (yes h) = inl (omega arith)
-      go (no h) = inr (inl (omega arith))
-
-  least-of-three : (a b c : ℕ) → n ≡ min a (min b c) → LeastOf (a ∷ b ∷ c ∷ []) n
-  least-of-three a b c e = ((omega arith, (omega arith, (omega arith, tt))), go (decLe a (min b c)) (decLe b c))
-    where
-      go : Dec (a ≤ min b c) → Dec (b ≤ c) → OneOf (a ∷ b ∷ c ∷ []) n
-      go (yes h) t = inl (omega arith)
-      go (no h) (yes k) = inr (inl (omega arith))
-      go (no h) (no k) = inr (inr (inl (omega arith)))
-
-  module _ (a d : ℕ) where
-    not-negative : pos 0 ≤ℤ pos n
-    not-negative = le-in (omega arith)
-
-    at-least-difference : a - d ≤ n → (pos a -ℤ pos d) ≤ℤ pos n
-    at-least-difference h = le-in (omega (arith, add-fact (pos a) (negℤ (pos d)), P-neg (pos d), N-neg (pos d)))
-
-    difference : n ≡ a - d → d ≤ a → pos n ≡ pos a -ℤ pos d
-    difference e l = ap pos e ∙ sym (pos-sub a d l)
-
-    larger-of-difference : n ≡ a - d → LargestOf (pos 0 ∷ (pos a -ℤ pos d) ∷ []) (pos n)
-    larger-of-difference e = ((not-negative, (at-least-difference (omega arith), tt)), go (decLe d a))
-      where
-        go : Dec (d ≤ a) → OneOf (pos 0 ∷ (pos a -ℤ pos d) ∷ []) (pos n)
-        go (yes l) = inr (inl (difference e l))
-        go (no l) = let z : n ≡ 0 = omega arith in inl (ap pos z)
-
-    largest-with : (s : ℕ) → n ≡ max (a - d) s → LargestOf (pos 0 ∷ (pos a -ℤ pos d) ∷ pos s ∷ []) (pos n)
-    largest-with s e = ((not-negative, (at-least-difference (omega arith), (le-in (omega arith), tt))), go (decLe (a - d) s))
-      where
-        go : Dec (a - d ≤ s) → OneOf (pos 0 ∷ (pos a -ℤ pos d) ∷ pos s ∷ []) (pos n)
-        go (yes l) = let z : n ≡ s = omega arith in inr (inr (inl (ap pos z)))
-        go (no l) = inr (inl (difference (omega arith) (omega arith)))
 
 -- ---- limits
 limits-in-words : (r : Resource) → LimitsInWords r

@@ -1,13 +1,9 @@
--- The rows, quantities and priced quantities of a case by their families: which ones it has, what holds of each of them, and
--- sums over them. A case that has as many of everything as it may bounds a sum over those of any other.
+-- The rows, quantities and priced quantities of a case by their families: which ones it has, and what holds of each of them.
 use mathlib.Core.List.{List, _++_, map}
-use Prim.Native.Nat.{ℕ, _<_, _≤_}
-use native.Mathlib.Omega.{arith}
-use Rattle.arith.specs.Sums.{totalOf, Each, upto, across}
+use Prim.Native.Nat.{ℕ, _<_}
+use Rattle.arith.specs.Sums.{Each, upto, across}
 use Rattle.arith.proofs.Lists.{each-imp, each-any, each-join, each-split, each-map, each-of-map, each-across, each-of-across, each-upto, at-upto}
-use Rattle.arith.proofs.Sums.{total-append, total-longer-map, total-longer-across}
 use Rattle.market.specs.Case.{Case, Curve, operating, regulatingPlusSpinning, regulating, shortTerm, curves, Reserve, regulatingReserve, contingencyReserve, shortTermReserve, reserves, energySteps, curveSteps}
-use Rattle.market.specs.CaseCheck.{mostResources, mostZones, mostFlowgates}
 use Rattle.market.specs.UpperBounds.{Service, energy, regulation, contingency, onLineShortTerm, offLineShortTerm, reserveServices, services, Quantity, Cleared, Provided, quantities}
 use Rattle.market.specs.Rows.{Row, Balance, Market, Zone, Flowgate, Limited, Limit, maxWithReserve, maxWithShortTerm, minimum, high, low, limits, marketRows, zoneRows, flowgateRows, limitRows, rows}
 use Rattle.market.specs.Cost.{Priced, EnergyStep, Whole, CurveStep, pricedOf, curvePriced, priced, quantityOf}
@@ -67,7 +63,7 @@ reserves-whole : Each PricedWhole reserveServices
 reserves-whole = (tt, (tt, (tt, (tt, tt))))
 
 module _ (c : Case) where
-  abbrev provided : List Quantity
+  abbrev pub provided : List Quantity
   provided = across (λ i. map (Provided i) services) (upto (c .resources))
 
   -- a priced quantity's quantity
@@ -150,57 +146,3 @@ module _ (c : Case) where
         each-join P (across pricedOf (upto (c .resources))) (across curvePriced curves)
         (each-across P pricedOf (upto (c .resources)) (each-upto _ (c .resources) of-resource))
         (each-across P curvePriced curves (each-any _ curves of-curve))
-
--- ---- sums over them
-pub record CountRanges (c : Case) : Type 0 where
-  pub most-resources : c .resources ≤ mostResources
-  pub most-zones : c .zones ≤ mostZones
-  pub most-flowgates : c .flowgates ≤ mostFlowgates
-
--- the case with as many of everything as it may have
-abbrev pub largest : Case → Case
-largest c =
-    record {
-      resources = mostResources;
-      zones = mostZones;
-      flowgates = mostFlowgates;
-      demand = c .demand;
-      multiplier = c .multiplier;
-      minutes = c .minutes;
-      share = c .share;
-      requirement = c .requirement;
-      curveWidth = c .curveWidth;
-      curvePrice = c .curvePrice;
-      zoneRequirement = c .zoneRequirement;
-      resource = c .resource;
-      flowgateLimit = c .flowgateLimit;
-      shiftFactor = c .shiftFactor;
-    }
-
-module _ (c : Case) (n : CountRanges c) where
-  pub rows-most : (f : Row → ℕ) → totalOf f (rows c) ≤ totalOf f (rows (largest c))
-  unfolding rows totalOf
-  rows-most f =
-      let d = largest c in
-      omega (
-        arith,
-        total-append f marketRows (zoneRows c ++ (flowgateRows c ++ limitRows c)),
-        total-append f marketRows (zoneRows d ++ (flowgateRows d ++ limitRows d)),
-        total-append f (zoneRows c) (flowgateRows c ++ limitRows c),
-        total-append f (zoneRows d) (flowgateRows d ++ limitRows d),
-        total-append f (flowgateRows c) (limitRows c),
-        total-append f (flowgateRows d) (limitRows d),
-        total-longer-across f (λ z. map (Zone z) curves) mostZones (n .most-zones),
-        total-longer-map f Flowgate mostFlowgates (n .most-flowgates),
-        total-longer-across f (λ i. map (Limited i) limits) mostResources (n .most-resources),
-      )
-
-  pub quantities-most : (f : Quantity → ℕ) → totalOf f (quantities c) ≤ totalOf f (quantities (largest c))
-  unfolding quantities
-  quantities-most f =
-      omega (
-        arith,
-        total-append f (map Cleared curves) (provided c),
-        total-append f (map Cleared curves) (provided (largest c)),
-        total-longer-across f (λ i. map (Provided i) services) mostResources (n .most-resources),
-      )

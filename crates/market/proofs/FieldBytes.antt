@@ -12,7 +12,8 @@ use lib.IntN.{ℤ, pos, negsuc}
 use lib.ListN.{length, take, drop}
 use lib.Seq.{getD-drop}
 use Rattle.arith.proofs.Parts.{eq-in, P-add, N-add, P-neg, N-neg}
-use Rattle.arith.proofs.Lists.{and-split, and-join, each-at}
+use Rattle.arith.proofs.Lists.{each-at}
+use Rattle.arith.proofs.AllTests.{and-split, and-join}
 use Rattle.market.specs.Bytes.{u8At, u16At, u32At, signed, withinℤ}
 use Rattle.market.specs.Numbers.{Field, u8, u16, u32, i16, i32, fieldWidth, fieldLow, fieldHigh, fieldAt, fieldBytes, unsigned, u16Bytes, u32Bytes}
 use Rattle.market.specs.RoundTrips.{AreBytes}

@@ -10,7 +10,8 @@ use lib.IntN.{ℤ}
 use lib.ListN.{length, take, drop, length-append, length-drop}
 use lib.Seq.{drop-at, take-add}
 use Rattle.arith.specs.Sums.{totalOf}
-use Rattle.arith.proofs.Lists.{and-split, and-join, each-drop}
+use Rattle.arith.proofs.Lists.{each-drop}
+use Rattle.arith.proofs.AllTests.{and-split, and-join}
 use Rattle.market.specs.Bytes.{withinℤ}
 use Rattle.market.specs.Numbers.{Field, fieldWidth, fieldLow, fieldHigh, fieldAt, fieldBytes, numbersAt, bytesOf, numbersFit}
 use Rattle.market.specs.RoundTrips.{AreBytes}

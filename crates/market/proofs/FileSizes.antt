@@ -5,7 +5,7 @@ use Prim.Native.Nat.{ℕ, _+_, _*_}
 use native.Mathlib.Omega.{arith}
 use lib.ListN.{length, length-append, length-replicate}
 use Rattle.arith.specs.Sums.{totalOf, upto}
-use Rattle.arith.proofs.Sums.{total-append, total-across, total-same, total-replicate}
+use Rattle.arith.proofs.NaturalSums.{total-append, total-across, total-same, total-replicate}
 use Rattle.arith.proofs.Lists.{length-across, length-upto}
 use Rattle.market.specs.CaseFile.{caseSize}
 use Rattle.market.specs.Certificate.{certificateSize}

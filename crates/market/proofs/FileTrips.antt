@@ -10,7 +10,8 @@ use lib.IntN.{ℤ}
 use lib.ListN.{length, drop, take, length-drop}
 use lib.Seq.{split-at, take-all}
 use Rattle.arith.specs.Sums.{totalOf}
-use Rattle.arith.proofs.Lists.{and-split, and-join, each-drop, each-split}
+use Rattle.arith.proofs.Lists.{each-drop, each-split}
+use Rattle.arith.proofs.AllTests.{and-split, and-join}
 use Rattle.market.specs.declared.Refusal.{Refusal}
 use Rattle.market.specs.declared.Refusal.the-variants.{Counts, NumberList}
 use Rattle.market.specs.Bytes.{u8At, u32At, within}

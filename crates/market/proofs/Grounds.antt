@@ -10,7 +10,7 @@ use lib.IntN.{ℤ, pos}
 use lib.Signed.{leZ}
 use Rattle.arith.specs.Sums.{Each}
 use Rattle.arith.proofs.Order.{≤ℤ-antisymm}
-use Rattle.arith.proofs.Lists.{and-split}
+use Rattle.arith.proofs.AllTests.{and-split}
 use Rattle.market.specs.declared.Refusal.{Refusal}
 use Rattle.market.specs.Rows.{Sense, equal, atLeast, Meets}
 use Rattle.market.specs.Refusals.{Finding, clear, holds, unless, firstFailing, firstOf, FirstHolds, AllClear}

@@ -8,7 +8,7 @@ use lib.IntN.{ℤ, pos}
 use lib.ListN.{replicate}
 use Rattle.arith.specs.Sums.{upto, across, totalOf}
 use Rattle.arith.proofs.Lists.{across-append, across-one}
-use Rattle.arith.proofs.Sums.{total-replicate}
+use Rattle.arith.proofs.NaturalSums.{total-replicate}
 use Rattle.market.specs.Bytes.{u8At, u32At, i16At, i32At}
 use Rattle.market.specs.Case.{curves, energySteps}
 use Rattle.market.specs.CaseFile.{caseOf, resourceAt, resourcePlace, flowgatePlace}

@@ -1,50 +1,24 @@
 -- Net prices in the words of 01: what the rows take from a quantity, without a sum over all rows.
-use mathlib.Core.Path.{_≡_, refl, sym, _∙_, ap, subst}
+use mathlib.Core.Path.{_≡_, _∙_}
 use mathlib.Core.Bool.{Bool, true, false, cond}
-use mathlib.Core.List.{List, _++_, map}
-use Prim.Native.Nat.{ℕ, suc}
+use mathlib.Core.List.{List}
+use Prim.Native.Nat.{ℕ}
 use native.Mathlib.Omega.{arith}
-use lib.Dec.{T, eqb, eqb→eq, eqb-refl}
 use lib.IntN.{ℤ, pos, negℤ, _+ℤ_, _*ℤ_, _-ℤ_, *ℤ-zero}
 use Rattle.arith.specs.Sums.{sumOf, upto}
 use Rattle.arith.proofs.Order.{*ℤ-neg}
 use Rattle.arith.proofs.Linear.{sorted, count}
-use Rattle.arith.proofs.Sums.{sum-ext, sum-neg, sum-zero, sum-map, sum-across, append-sums, sum-cond}
-use Rattle.arith.proofs.Picks.{sum-pick}
+use Rattle.arith.proofs.Sums.{sum-ext, sum-neg, sum-zero}
 use Rattle.market.specs.Case.{Case, Curve, curves, operating, regulatingPlusSpinning, regulating, shortTerm}
-use Rattle.market.specs.UpperBounds.{Service, energy, regulation, contingency, onLineShortTerm, offLineShortTerm, Cleared, Provided}
-use Rattle.market.specs.Rows.{Row, Balance, Market, Zone, Flowgate, Limited, maxWithReserve, maxWithShortTerm, minimum, high, low, limits, marketRows, zoneRows, flowgateRows, limitRows, rows, none, one, entries, inReserve, inLimit, coefficient}
+use Rattle.market.specs.UpperBounds.{energy, regulation, contingency, onLineShortTerm, offLineShortTerm, Cleared}
+use Rattle.market.specs.Rows.{Balance, Market, Zone, Flowgate, Limited, maxWithReserve, maxWithShortTerm, minimum, high, low, limits, none, entries, coefficient}
 use Rattle.market.specs.Certificate.{Prices}
 use Rattle.market.specs.Cost.{EnergyStep, Whole, CurveStep, quantityOf, servicePrice, offer}
 use Rattle.market.specs.Bound.{rowValue, netPrice}
 use Rattle.market.specs.Prices.{LMP, regulatingPrice, spinningPrice, supplementalPrice, shortTermPrice}
 use Rattle.market.specs.InWords.{isSpinning, limitPrices, Placed, NetPricesInWords}
-use Rattle.market.proofs.Entries.{*-one, *-none, cleared-price, reservePrice, reserve-price, limitPrice, limit-price}
-
--- a sum over the rows, by families
-pub rows-sum : (c : Case) (g : Row → ℤ) → sumOf g (rows c)
-    ≡ g Balance +ℤ (sumOf (λ k. g (Market k)) curves
-    +ℤ (sumOf (λ z. sumOf (λ k. g (Zone z k)) curves) (upto (c .zones))
-    +ℤ (sumOf (λ f. g (Flowgate f)) (upto (c .flowgates))
-    +ℤ sumOf (λ i. sumOf (λ l. g (Limited i l)) limits) (upto (c .resources)))))
-unfolding rows sumOf
-rows-sum c g =
-    ap (λ (t : ℤ). g Balance +ℤ t)
-    (append-sums g marketRows (zoneRows c ++ (flowgateRows c ++ limitRows c)) (sum-map g Market curves)
-    (append-sums g (zoneRows c) (flowgateRows c ++ limitRows c) (sum-across g (λ z. map (Zone z) curves) (upto (c .zones)) ∙ sum-ext _ _ (λ z. sum-map g (Zone z) curves) (upto (c .zones)))
-    (append-sums g (flowgateRows c) (limitRows c) (sum-map g Flowgate (upto (c .flowgates)))
-    (sum-across g (λ i. map (Limited i) limits) (upto (c .resources)) ∙ sum-ext _ _ (λ i. sum-map g (Limited i) limits) (upto (c .resources))))))
-
-is-true : (b : Bool) → T b → b ≡ true
-is-true true h = refl
-is-true false h = absurd h
-
--- the test that names one number
-pub same-number : (i : ℕ) → eqb i i ≡ true
-same-number i = is-true (eqb i i) (eqb-refl i)
-
-pub only-number : (i j : ℕ) → eqb i j ≡ true → i ≡ j
-only-number i j e = eqb→eq i j (subst T (sym e) tt)
+use Rattle.market.proofs.TakenByRows.{rows-sum, taken}
+use Rattle.market.proofs.Entries.{*-one, *-none, cleared-price}
 
 -- a flowgate row holds no reserve
 no-flow : (y : ℕ → ℤ) (n : ℕ) → sumOf (λ f. y f *ℤ negℤ none) (upto n) ≡ pos 0
@@ -52,39 +26,13 @@ unfolding none
 no-flow y n = sum-ext (λ f. y f *ℤ pos 0) (λ f. pos 0) (λ f. *ℤ-zero (y f)) (upto n) ∙ sum-zero (upto n)
 
 module _ (c : Case) (y : Prices) (i z : ℕ) (at : Placed c i z) where
-  module _ (s : Service) where
-    zone-sum : sumOf (λ z. sumOf (λ k. y (Zone z k) *ℤ coefficient c (Zone z k) (Provided i s)) curves) (upto (c .zones)) ≡ sumOf (λ k. y (Zone z k) *ℤ inReserve (c .resource i) k s) curves
-    unfolding coefficient none
-    zone-sum =
-        sum-ext _ _ (λ z. sum-cond (eqb (c .resource i .zone) (suc z)) (λ k. y (Zone z k)) (λ k. inReserve (c .resource i) k s) curves) (upto (c .zones))
-        ∙ sum-pick (λ z. eqb (c .resource i .zone) (suc z)) (λ z. sumOf (λ k. y (Zone z k) *ℤ inReserve (c .resource i) k s) curves) z
-        (rw (at .zoned) (same-number (suc z))) (λ t e. omega (arith, only-number (c .resource i .zone) (suc t) e, at .zoned)) (c .zones) (at .zone-below)
-
-    limit-sum : sumOf (λ j. sumOf (λ l. y (Limited j l) *ℤ coefficient c (Limited j l) (Provided i s)) limits) (upto (c .resources)) ≡ sumOf (λ l. y (Limited i l) *ℤ inLimit l s) limits
-    unfolding coefficient none
-    limit-sum =
-        sum-ext _ _ (λ j. sum-cond (eqb i j) (λ l. y (Limited j l)) (λ l. inLimit l s) limits) (upto (c .resources))
-        ∙ sum-pick (λ j. eqb i j) (λ j. sumOf (λ l. y (Limited j l) *ℤ inLimit l s) limits) i (same-number i) (λ j e. sym (only-number i j e)) (c .resources) (at .below)
-
-    -- what the rows take from a resource's service: by the rows that can hold it
-    pub taken : rowValue c y (Provided i s)
-        ≡ y Balance *ℤ entries one none none none none s
-        +ℤ (reservePrice (c .resource i) (λ k. y (Market k)) s
-        +ℤ (reservePrice (c .resource i) (λ k. y (Zone z k)) s
-        +ℤ (sumOf (λ f. y (Flowgate f) *ℤ negℤ (entries (c .shiftFactor f i) none none none none s)) (upto (c .flowgates))
-        +ℤ limitPrice (λ l. y (Limited i l)) s)))
-    unfolding rowValue coefficient
-    taken =
-        rows-sum c (λ r. y r *ℤ coefficient c r (Provided i s))
-        ∙ rw (zone-sum, limit-sum, reserve-price (c .resource i) (λ k. y (Market k)) s, reserve-price (c .resource i) (λ k. y (Zone z k)) s, limit-price (λ l. y (Limited i l)) s)
-
   flow-sum : sumOf (λ f. y (Flowgate f) *ℤ negℤ (c .shiftFactor f i)) (upto (c .flowgates)) ≡ negℤ (sumOf (λ f. y (Flowgate f) *ℤ c .shiftFactor f i) (upto (c .flowgates)))
   flow-sum = sum-ext _ _ (λ f. *ℤ-neg (y (Flowgate f)) (c .shiftFactor f i)) (upto (c .flowgates)) ∙ sum-neg (λ f. y (Flowgate f) *ℤ c .shiftFactor f i) (upto (c .flowgates))
 
   energy-net : (j : ℕ) → netPrice c y (EnergyStep i j) ≡ pos 1000 *ℤ c .resource i .stepPrice j -ℤ LMP c y i +ℤ limitPrices y i
   unfolding netPrice quantityOf offer entries LMP
   energy-net j =
-      rw (taken energy, flow-sum, *-one (y Balance))
+      rw (taken c y i z at energy, flow-sum, *-one (y Balance))
       (ring (pos 1000 *ℤ c .resource i .stepPrice j) (y Balance) (sumOf (λ f. y (Flowgate f) *ℤ c .shiftFactor f i) (upto (c .flowgates))) (y (Limited i maxWithReserve)) (y (Limited i maxWithShortTerm)) (y (Limited i minimum)) (y (Limited i high)) (y (Limited i low)))
     where
       ring : (p b f m s n h l : ℤ) → p -ℤ (b +ℤ (pos 0 +ℤ (pos 0 +ℤ (negℤ f +ℤ (n +ℤ l -ℤ (m +ℤ s +ℤ h)))))) ≡ p -ℤ (b -ℤ f) +ℤ (m +ℤ s -ℤ n +ℤ h -ℤ l)
@@ -98,7 +46,7 @@ module _ (c : Case) (y : Prices) (i z : ℕ) (at : Placed c i z) where
       ≡ pos 1000 *ℤ pos (c .resource i .regulatingPrice) -ℤ regulatingPrice y z +ℤ (y (Limited i maxWithReserve) +ℤ y (Limited i minimum))
   unfolding netPrice quantityOf offer servicePrice entries regulatingPrice
   regulation-net =
-      rw (taken regulation, reserves-sum (y (Market operating) +ℤ y (Market regulatingPlusSpinning) +ℤ y (Market regulating)) (y (Zone z operating) +ℤ y (Zone z regulatingPlusSpinning) +ℤ y (Zone z regulating)) (negℤ (y (Limited i maxWithReserve) +ℤ y (Limited i minimum))))
+      rw (taken c y i z at regulation, reserves-sum (y (Market operating) +ℤ y (Market regulatingPlusSpinning) +ℤ y (Market regulating)) (y (Zone z operating) +ℤ y (Zone z regulatingPlusSpinning) +ℤ y (Zone z regulating)) (negℤ (y (Limited i maxWithReserve) +ℤ y (Limited i minimum))))
       (ring (pos 1000 *ℤ pos (c .resource i .regulatingPrice)) (y (Market operating)) (y (Market regulatingPlusSpinning)) (y (Market regulating)) (y (Zone z operating)) (y (Zone z regulatingPlusSpinning)) (y (Zone z regulating)) (y (Limited i maxWithReserve) +ℤ y (Limited i minimum)))
     where
       ring : (p a b d e f g l : ℤ) → p -ℤ ((a +ℤ b +ℤ d) +ℤ (e +ℤ f +ℤ g) +ℤ negℤ l) ≡ p -ℤ ((a +ℤ e) +ℤ (b +ℤ f) +ℤ (d +ℤ g)) +ℤ l
@@ -108,7 +56,7 @@ module _ (c : Case) (y : Prices) (i z : ℕ) (at : Placed c i z) where
       ≡ pos 1000 *ℤ pos (c .resource i .contingencyPrice) -ℤ cond (isSpinning (c .resource i)) (spinningPrice y z) (supplementalPrice y z) +ℤ y (Limited i maxWithReserve)
   unfolding netPrice quantityOf offer servicePrice entries spinningPrice supplementalPrice
   contingency-net =
-      rw (taken contingency, reserves-sum (y (Market operating) +ℤ cond (isSpinning (c .resource i)) (y (Market regulatingPlusSpinning)) (pos 0)) (y (Zone z operating) +ℤ cond (isSpinning (c .resource i)) (y (Zone z regulatingPlusSpinning)) (pos 0)) (negℤ (y (Limited i maxWithReserve))))
+      rw (taken c y i z at contingency, reserves-sum (y (Market operating) +ℤ cond (isSpinning (c .resource i)) (y (Market regulatingPlusSpinning)) (pos 0)) (y (Zone z operating) +ℤ cond (isSpinning (c .resource i)) (y (Zone z regulatingPlusSpinning)) (pos 0)) (negℤ (y (Limited i maxWithReserve))))
       (by-spinning (isSpinning (c .resource i)) (pos 1000 *ℤ pos (c .resource i .contingencyPrice)) (y (Market operating)) (y (Market regulatingPlusSpinning)) (y (Zone z operating)) (y (Zone z regulatingPlusSpinning)) (y (Limited i maxWithReserve)))
     where
       by-spinning : (t : Bool) (p a b e f l : ℤ) → p -ℤ ((a +ℤ cond t b (pos 0)) +ℤ (e +ℤ cond t f (pos 0)) +ℤ negℤ l) ≡ p -ℤ cond t ((a +ℤ e) +ℤ (b +ℤ f)) (a +ℤ e) +ℤ l
@@ -118,7 +66,7 @@ module _ (c : Case) (y : Prices) (i z : ℕ) (at : Placed c i z) where
   on-line-net : netPrice c y (Whole i onLineShortTerm) ≡ y (Limited i maxWithShortTerm) -ℤ shortTermPrice y z
   unfolding netPrice quantityOf offer servicePrice entries shortTermPrice
   on-line-net =
-      rw (taken onLineShortTerm, reserves-sum (y (Market shortTerm)) (y (Zone z shortTerm)) (negℤ (y (Limited i maxWithShortTerm))))
+      rw (taken c y i z at onLineShortTerm, reserves-sum (y (Market shortTerm)) (y (Zone z shortTerm)) (negℤ (y (Limited i maxWithShortTerm))))
       (ring (y (Market shortTerm)) (y (Zone z shortTerm)) (y (Limited i maxWithShortTerm)))
     where
       ring : (a b l : ℤ) → pos 0 -ℤ (a +ℤ b +ℤ negℤ l) ≡ l -ℤ (a +ℤ b)
@@ -127,7 +75,7 @@ module _ (c : Case) (y : Prices) (i z : ℕ) (at : Placed c i z) where
   off-line-net : netPrice c y (Whole i offLineShortTerm) ≡ pos 1000 *ℤ pos (c .resource i .offLineShortTermPrice) -ℤ shortTermPrice y z
   unfolding netPrice quantityOf offer servicePrice entries shortTermPrice
   off-line-net =
-      rw (taken offLineShortTerm, reserves-sum (y (Market shortTerm)) (y (Zone z shortTerm)) (pos 0))
+      rw (taken c y i z at offLineShortTerm, reserves-sum (y (Market shortTerm)) (y (Zone z shortTerm)) (pos 0))
       (ring (pos 1000 *ℤ pos (c .resource i .offLineShortTermPrice)) (y (Market shortTerm)) (y (Zone z shortTerm)))
     where
       ring : (p a b : ℤ) → p -ℤ (a +ℤ b +ℤ pos 0) ≡ p -ℤ (a +ℤ b)

@@ -23,7 +23,7 @@ use Rattle.market.specs.Outcome.{caseGrounds, certificateGrounds, ground
 use Rattle.market.specs.Program.{caseIn, certificateIn, mostInput, inputGround, programGrounds, refusalLine, report, printed, printedOf}
 use Rattle.market.specs.RefusedExactly.{Exactly, FirstAt, PlacesExactly, acceptedText}
 use Rattle.market.proofs.Grounds.{none-holds, all-clear, first-holds, holds-first, unless-clear}
-use Rattle.market.proofs.Families.{CountRanges}
+use Rattle.market.proofs.LargestCase.{CountRanges}
 use Rattle.market.proofs.Ranges.{count-ranges}
 use Rattle.market.proofs.Lengths.{quantity-count, row-count}
 use Rattle.market.proofs.RefusedPlaces.{above-bound-at, row-broken-at, places}

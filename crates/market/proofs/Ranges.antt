@@ -9,7 +9,8 @@ use lib.Signed.{leZ}
 use Rattle.arith.specs.Sums.{all}
 use Rattle.arith.proofs.Parts.{le-in, P-neg}
 use Rattle.arith.proofs.Order.{≤ℤ-trans}
-use Rattle.arith.proofs.Lists.{and-split, each-imp, all-each}
+use Rattle.arith.proofs.Lists.{each-imp}
+use Rattle.arith.proofs.AllTests.{and-split, all-each}
 use Rattle.arith.proofs.Magnitudes.{Size, size-between}
 use Rattle.market.specs.declared.Refusal.the-variants.{AboveBound, Counts, FieldRange, StepRule, LimitPair}
 use Rattle.market.specs.Bytes.{withinℤ}
@@ -23,7 +24,8 @@ use Rattle.market.specs.Refusals.{clear, firstFailing}
 use Rattle.market.specs.Outcome.{Valid, caseGrounds, priceRight, withinBound}
 use Rattle.market.specs.CheckInWords.{EitherWay, ReserveWithin, ResourceWithin, PairsInOrder}
 use Rattle.market.proofs.Grounds.{unless-clear, none-fails}
-use Rattle.market.proofs.Families.{RowOf, CountRanges, at-row}
+use Rattle.market.proofs.Families.{RowOf, at-row}
+use Rattle.market.proofs.LargestCase.{CountRanges}
 use Rattle.market.proofs.Tests.{either-test}
 use Rattle.market.proofs.CheckInWords.{check-in-words}
 

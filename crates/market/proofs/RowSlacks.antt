@@ -17,7 +17,7 @@ use Rattle.market.specs.UpperBounds.{energy, regulation, contingency, on
 use Rattle.market.specs.Rows.{Row, Balance, Market, Zone, Flowgate, Limited, Limit, maxWithReserve, maxWithShortTerm, minimum, high, low, none, one, entries, inReserve, inLimit, coefficient, rightSide, leftSide, slack}
 use Rattle.market.specs.InWords.{RowsInWords, kwOf, reserveOf, reserveInZone}
 use Rattle.market.proofs.Entries.{none-*, one-*, energy-term, reserve-term, limitTerm, limit-term, cleared-term}
-use Rattle.market.proofs.NetPrices.{same-number, only-number}
+use Rattle.market.proofs.TakenByRows.{same-number, only-number}
 
 -- a sum over the quantities, by curves and by resources
 pub quantities-sum : (c : Case) (g : Quantity → ℤ) → sumOf g (quantities c) ≡ sumOf (λ k. g (Cleared k)) curves +ℤ sumOf (λ i. sumOf (λ s. g (Provided i s)) services) (upto (c .resources))

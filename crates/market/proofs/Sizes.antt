@@ -11,7 +11,7 @@ use lib.IntN.{ℤ, pos, natAbs, _*ℤ_}
 use Rattle.arith.specs.Sums.{totalOf, sizeOf, upto, across}
 use Rattle.arith.proofs.Lists.{each-upto}
 use Rattle.arith.proofs.Magnitudes.{Size, size-nat, size-more, size-add, size-sub, size-neg, size-mul}
-use Rattle.arith.proofs.Sums.{total-suc, total-append, total-map, total-across, total-mono, total-mono-all, total-scale, total-most, size-sum}
+use Rattle.arith.proofs.NaturalSums.{total-suc, total-append, total-map, total-across, total-mono, total-mono-all, total-scale, total-most, size-sum}
 use Rattle.market.specs.Bits.{regulatingFlag, spinningFlag, onLineSupplemental, offLineSupplementalFlag, offLineShortTermFlag, onLineShortTermFlag, emergencyMaximumFlag, emergencyMinimumFlag, selfScheduledFlag}
 use Rattle.market.specs.Case.{Case, Resource, Curve, operating, regulatingPlusSpinning, regulating, shortTerm, curves, curveNumber, Reserve, regulatingReserve, contingencyReserve, shortTermReserve, widthOf, energySteps, curveSteps}
 use Rattle.market.specs.CaseCheck.{mostFlowgates}

@@ -8,7 +8,8 @@ use lib.IntN.{ℤ, pos, natAbs, _*ℤ_}
 use Rattle.arith.specs.Sums.{totalOf, sizeOf, upto, across, Each}
 use Rattle.arith.proofs.Lists.{each-any, each-join, each-map, each-upto}
 use Rattle.arith.proofs.Magnitudes.{Size, size-nat, size-more, size-add, size-sub, size-mul, size-least}
-use Rattle.arith.proofs.Sums.{total-mono, total-mono-all, total-same, total-scale, sum-scale, size-sum}
+use Rattle.arith.proofs.Sums.{sum-scale}
+use Rattle.arith.proofs.NaturalSums.{total-mono, total-mono-all, total-same, total-scale, size-sum}
 use Rattle.market.specs.Case.{Case, Curve, curves, Reserve, reserves, curveSteps}
 use Rattle.market.specs.CaseFile.{caseOf}
 use Rattle.market.specs.UpperBounds.{energy, regulation, contingency, onLineShortTerm, offLineShortTerm, Quantity, Cleared, Provided, quantities, Schedule, upperBound}
@@ -19,7 +20,8 @@ use Rattle.market.specs.Bound.{rowValue, netPrice, lowest, bound}
 use Rattle.market.specs.Charges.{rowCharge, pricedCharge, charges}
 use Rattle.market.specs.Prices.{zonePrices}
 use Rattle.market.specs.Fits.{Fits64, TermsFit, SumsFit, SumsFitTheorem}
-use Rattle.market.proofs.Families.{RowOf, QuantityOf, PricedOf, largest, rows-most, quantities-most, quantity-of, at-quantity, each-row, each-quantity, each-priced}
+use Rattle.market.proofs.Families.{RowOf, QuantityOf, PricedOf, quantity-of, at-quantity, each-row, each-quantity, each-priced}
+use Rattle.market.proofs.LargestCase.{largest, rows-most, quantities-most}
 use Rattle.market.proofs.Ranges.{mostDemand, mostFactor, CaseRanges, PriceRanges, valid-ranges, price-ranges, bounded}
 use Rattle.market.proofs.Sizes.{mostLimit, mostCoefficient, mostRight, mostAmount, mostPrice, mostNet, capacity, energy-widths, curve-widths, capacity-most, width-most, part-most, amount-most, priced-most, coefficient-size, right-size, offer-size, net-size, flowgates-most, lmp-size, supplemental-size, spinning-size, regulating-size, short-term-size}
 

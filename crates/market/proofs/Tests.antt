@@ -10,7 +10,8 @@ use lib.IntN.{ℤ, pos, negℤ}
 use lib.Signed.{leZ, ltZ, _≤ℤ_, _<ℤ_, ≤ℤ-refl}
 use Rattle.arith.specs.Sums.{Each, all, upto}
 use Rattle.arith.proofs.Order.{≤ℤ-antisymm}
-use Rattle.arith.proofs.Lists.{and-split, and-join, all-each, each-all, each-imp, each-upto, at-upto}
+use Rattle.arith.proofs.Lists.{each-imp, each-upto, at-upto}
+use Rattle.arith.proofs.AllTests.{and-split, and-join, all-each, each-all}
 use Rattle.market.specs.Bytes.{within, withinℤ, ±}
 use Rattle.market.specs.Case.{Curve, curves, Reserve, reserves}
 use Rattle.market.specs.CheckInWords.{Between, EitherWay}

@@ -7,7 +7,7 @@ use native.Mathlib.Omega.{arith}
 use lib.IntN.{ℤ, pos, natAbs, _*ℤ_, _-ℤ_}
 use Rattle.arith.specs.Sums.{sumOf, upto}
 use Rattle.arith.proofs.Magnitudes.{abs-mul}
-use Rattle.arith.proofs.Sums.{upto-size}
+use Rattle.arith.proofs.NaturalSums.{upto-size}
 use Rattle.market.specs.CaseFile.{caseOf}
 use Rattle.market.specs.Case.{operating, regulatingPlusSpinning, regulating, shortTerm}
 use Rattle.market.specs.Rows.{Balance, Market, Zone, Flowgate}

@@ -10,7 +10,7 @@ use lib.IntN.{ℤ, pos, negsuc, negℤ, _-ℤ_, natAbs}
 use lib.Signed.{leZ, _≤ℤ_}
 use borrow.Author.Tests.{lt-ltb, le-ltb, le-leb, lt-leb, eq-eqb, ne-eqb}
 use Rattle.arith.proofs.Parts.{P, N, le-in, le-out, P-neg, N-neg, add-fact, abs-parts, part}
-use Rattle.arith.proofs.Lists.{and-true}
+use Rattle.arith.proofs.AllTests.{and-true}
 use Rattle.market.specs.Bytes.{signed, withinℤ, ±}
 use Rattle.ranges.specs.Pieces.{Halved}
 

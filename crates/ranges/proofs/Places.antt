@@ -7,7 +7,7 @@ use native.Mathlib.Omega.{arith}
 use native.Mathlib.Nat.{mul-le-mul}
 use lib.ListN.{length}
 use Rattle.arith.specs.Sums.{upto, all}
-use Rattle.arith.proofs.Lists.{all-append}
+use Rattle.arith.proofs.AllTests.{all-append}
 use Rattle.market.specs.Bytes.{u32At, within}
 use Rattle.market.specs.Case.{Resource, reserves}
 use Rattle.market.specs.CaseFile.{resourceAt, flowgatePlace, caseOf}

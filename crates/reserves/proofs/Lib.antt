@@ -1,4 +1,3 @@
 pub mod Known
 pub mod Sums
-pub mod Tables
 pub mod Zones

@@ -4,7 +4,8 @@ use Prim.Native.Nat.{ℕ, _+_, _<_, _≤_}
 use native.Mathlib.Omega.{arith}
 use lib.IntN.{ℤ, pos, natAbs, +ℤ-idr}
 use Rattle.arith.specs.Sums.{sumOf, upto}
-use Rattle.arith.proofs.Sums.{sum-upto, upto-size}
+use Rattle.arith.proofs.Sums.{sum-upto}
+use Rattle.arith.proofs.NaturalSums.{upto-size}
 use Rattle.market.specs.Case.{Curve, operating, regulatingPlusSpinning, regulating, shortTerm}
 use Rattle.market.specs.Records.{kw, curveAmountsOf}
 use Rattle.units.specs.Room.{SumRoom}

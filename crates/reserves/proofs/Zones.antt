@@ -17,7 +17,7 @@ use Rattle.prices.proofs.Known.{case-ranges, resource-below}
 use Rattle.reserves.specs.Given.{SumsRoom, addedAmounts, zoneTotal, zoneTotals}
 use Rattle.reserves.proofs.Known.{at-home, elsewhere, given-in-zone-small}
 use Rattle.reserves.proofs.Sums.{sums-more, sums-same, sums-room}
-use Rattle.reserves.proofs.Tables.{table-entry, table-store}
+use Rattle.arith.proofs.Tables.{table-entry, table-store}
 
 -- n is the zone of resource i, counted from 1
 module _ {b q : List ℕ} {r z f : ℕ} (s : Standing b q r z f) (i n : ℕ) (h : i < r) (e : n ≡ caseOf b .resource i .zone) where

@@ -10,7 +10,7 @@ use lib.ListN.{length}
 use Rattle.arith.specs.Sums.{sumOf, upto, across}
 use Rattle.arith.proofs.Lists.{length-across, length-upto, across-one}
 use Rattle.arith.proofs.Magnitudes.{abs-mul}
-use Rattle.arith.proofs.Sums.{upto-size}
+use Rattle.arith.proofs.NaturalSums.{upto-size}
 use Rattle.market.specs.declared.First.{First}
 use Rattle.market.specs.declared.First.the-variants.{None, At}
 use Rattle.market.specs.declared.Refusal.{Refusal}

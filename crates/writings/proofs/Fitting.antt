@@ -9,7 +9,7 @@ use lib.Dec.{T}
 use lib.IntN.{ℤ, pos, negsuc, negℤ, natAbs}
 use lib.Signed.{leZ, _≤ℤ_}
 use Rattle.arith.proofs.Order.{zl}
-use Rattle.arith.proofs.Lists.{and-split}
+use Rattle.arith.proofs.AllTests.{and-split}
 use Rattle.market.specs.Bytes.{withinℤ}
 use Rattle.market.specs.Numbers.{u8, u16, u32, i16, i32, u16Bytes, u32Bytes, fieldBytes}
 use Rattle.wire.specs.Within.{Signed}

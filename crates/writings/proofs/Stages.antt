@@ -10,7 +10,7 @@ use lib.IntN.{ℤ, pos, negsuc, natAbs}
 use lib.ListN.{length, getD}
 use lib.Signed.{leZ}
 use borrow.Author.Tests.{le-leb, lt-leb}
-use Rattle.arith.proofs.Lists.{and-split}
+use Rattle.arith.proofs.AllTests.{and-split}
 use Rattle.arith.proofs.Order.{zl}
 use Rattle.market.specs.declared.Refusal.{Refusal}
 use Rattle.market.specs.declared.Counts.{Counts}

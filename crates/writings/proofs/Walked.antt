@@ -12,7 +12,7 @@ use lib.IntN.{ℤ, pos}
 use lib.ListN.{length, getD, take, length-append}
 use lib.Seq.{take-suc, take-all, length-take-le}
 use Rattle.arith.specs.Sums.{totalOf}
-use Rattle.arith.proofs.Lists.{and-split, and-assoc, and-true, and-false}
+use Rattle.arith.proofs.AllTests.{and-split, and-assoc, and-true, and-false}
 use Rattle.market.specs.Bytes.{withinℤ}
 use Rattle.market.specs.Numbers.{Field, u8, fieldWidth, fieldLow, fieldHigh, fieldBytes, bytesOf, numbersFit}
 use Rattle.market.proofs.FieldBytes.{field-length}

@@ -4,7 +4,7 @@ use mathlib.Core.Path.{_≡_, sym, _∙_}
 use Prim.Native.Nat.{_≤_, _-_}
 use native.Mathlib.Omega.{arith}
 use borrow.Author.Needs.{needs}
-use Rattle.arith.proofs.Lists.{all-none, all-next}
+use Rattle.arith.proofs.AllTests.{all-none, all-next}
 use Rattle.arith.specs.Sums.{upto, all}
 use Rattle.market.specs.CaseFile.{resourceAt}
 use Rattle.cases.specs.Pieces.{offerFollows}

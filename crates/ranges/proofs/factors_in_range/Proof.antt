@@ -4,7 +4,7 @@ use Prim.Native.Nat.{_≤_, _-_}
 use native.Mathlib.Omega.{arith}
 use borrow.Author.Needs.{needs}
 use mathlib.Core.Logic.{⊎-elim, inl, inr}
-use Rattle.arith.proofs.Lists.{all-none, all-next}
+use Rattle.arith.proofs.AllTests.{all-none, all-next}
 use Rattle.arith.specs.Sums.{upto, all}
 use Rattle.ranges.specs.Pieces.{factorInRange}
 use Rattle.ranges.proofs.factors_in_range.Statement.{statement}

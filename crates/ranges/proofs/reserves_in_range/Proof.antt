@@ -1,6 +1,6 @@
 -- `ranges::reserves_in_range` meets its contract. Assumes nothing.
 use borrow.Author.Needs.{needs}
-use Rattle.arith.proofs.Lists.{and-true}
+use Rattle.arith.proofs.AllTests.{and-true}
 use Rattle.arith.specs.Sums.{all}
 use Rattle.market.specs.CaseCheck.{reserveInRange}
 use Rattle.market.specs.CaseFile.{caseOf}

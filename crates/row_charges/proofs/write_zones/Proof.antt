@@ -12,7 +12,7 @@ use Rattle.market.specs.Case.{curves}
 use Rattle.market.specs.Rows.{Zone}
 use Rattle.records.proofs.Places.{zones-is}
 use Rattle.reserves.specs.Given.{zoneTotal}
-use Rattle.reserves.proofs.Tables.{table-entry}
+use Rattle.arith.proofs.Tables.{table-entry}
 use Rattle.arith.proofs.Buffers.{rest-length}
 use Rattle.row_charges.specs.Families.{chargeOf}
 use Rattle.row_charges.proofs.Written.{block-written, blocks-done}

@@ -11,7 +11,7 @@ use Rattle.market.specs.Outcome.{rowMet}
 use Rattle.records.proofs.Places.{zones-is}
 use Rattle.prices.proofs.Known.{zone-below}
 use Rattle.reserves.specs.Given.{zoneTotal}
-use Rattle.reserves.proofs.Tables.{table-entry}
+use Rattle.arith.proofs.Tables.{table-entry}
 use Rattle.rows.proofs.Search.{search-none, search-more, search-stop}
 use mathlib.Core.List.{map}
 use Rattle.market.specs.Case.{curves}

@@ -7,7 +7,7 @@ use lib.IntN.{ℤ, pos, _+ℤ_, _-ℤ_, _*ℤ_}
 use lib.Signed.{_≤ℤ_}
 use Rattle.arith.specs.Sums.{minℤ, sumOf, Each}
 
-pub record Programme (Row Column : Type 0) : Type 0 where
+pub record LinearProgramme (Row Column : Type 0) : Type 0 where
   pub rows : List Row
   pub columns : List Column
   pub coefficient : Row → Column → ℤ
@@ -15,7 +15,7 @@ pub record Programme (Row Column : Type 0) : Type 0 where
   pub price : Column → ℤ
   pub upperBound : Column → ℤ
 
-module _ {Row Column : Type 0} (L : Programme Row Column) where
+module _ {Row Column : Type 0} (L : LinearProgramme Row Column) where
   unfoldable pub net : (Row → ℤ) → Column → ℤ
   net y j = L .price j -ℤ sumOf (λ r. y r *ℤ L .coefficient r j) (L .rows)
 

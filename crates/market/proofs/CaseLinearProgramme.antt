@@ -5,25 +5,26 @@ use mathlib.Core.Logic.{_⊎_, inl, inr}
 use Prim.Native.Nat.{ℕ, _≤_}
 use native.Mathlib.Omega.{arith}
 use lib.Dec.{le→leb}
-use lib.IntN.{ℤ, pos, _+ℤ_, _*ℤ_, _-ℤ_, +ℤ-comm}
+use lib.IntN.{ℤ, pos, _*ℤ_, _-ℤ_}
 use lib.Signed.{_≤ℤ_}
-use Rattle.arith.specs.Sums.{sumOf, Each, upto, across}
-use Rattle.arith.specs.Programme.{Programme}
-use Rattle.arith.specs.Programme as L
+use Rattle.arith.specs.Sums.{Each, upto, across}
+use Rattle.arith.specs.LinearProgramme.{LinearProgramme}
+use Rattle.arith.specs.LinearProgramme as L
 use Rattle.arith.proofs.Order.{*ℤ-assoc}
-use Rattle.arith.proofs.Sums.{sum-append, sum-ext, sum-scale, sum-map, sum-across, sum-each-ext}
-use Rattle.arith.proofs.Lists.{each-imp, each-any, each-join, each-split, each-map, each-of-map, each-across, each-of-across, each-and}
-use Rattle.market.specs.Case.{Case, Curve, curves, widthOf, energySteps, curveSteps}
+use Rattle.arith.proofs.Sums.{sum-ext, sum-scale}
+use Rattle.arith.proofs.Lists.{each-imp, each-any, each-join, each-map, each-across, each-and}
+use Rattle.market.specs.Case.{Case, Curve, curves, energySteps, curveSteps}
 use Rattle.market.specs.Availability.{onLine}
-use Rattle.market.specs.UpperBounds.{Service, energy, reserveServices, services, Quantity, Cleared, Provided, quantities, Schedule, serviceBound, upperBound}
+use Rattle.market.specs.UpperBounds.{Service, energy, reserveServices, Cleared, Provided, Schedule, serviceBound, upperBound}
 use Rattle.market.specs.Rows.{Row, rows, Sense, equal, atLeast, sense, coefficient, rightSide, leftSide, slack, Meets, Bounded, Met}
-use Rattle.market.specs.Certificate.{Prices, lowestPrice}
+use Rattle.market.specs.Certificate.{Prices}
 use Rattle.market.specs.Cost.{Priced, EnergyStep, Whole, CurveStep, pricedOf, curvePriced, priced, quantityOf, offer, width, part, cost}
 use Rattle.market.specs.Bound.{rowValue, netPrice, lowest, bound}
 use Rattle.market.specs.Charges.{rowCharge, pricedCharge, charges}
-use Rattle.market.proofs.Steps.{filled-sum, filled-below, energy-below, step-below}
+use Rattle.market.proofs.QuantityParts.{ResourceBounded, by-kind, parts-sum}
+use Rattle.market.proofs.Steps.{filled-below, step-below}
 
-abbrev pub programme : Case → Programme Row Priced
+abbrev pub programme : Case → LinearProgramme Row Priced
 programme c =
     record {
       rows = rows c;
@@ -51,65 +52,10 @@ row-sign equal p v m l = inr m
 row-sign atLeast p v m l = inl (l, m)
 
 module _ (c : Case) (z : Schedule) where
-  -- the bounds, by curves and by resources
-  abbrev CurveBounded : Curve → Type 0
-  CurveBounded k = z (Cleared k) ≤ widthOf (c .curveWidth k) curveSteps
-
-  abbrev ResourceBounded : ℕ → Type 0
-  ResourceBounded i = Each (λ s. z (Provided i s) ≤ serviceBound c (c .resource i) s) services
-
-  by-kind : Bounded c z → Each CurveBounded curves × Each ResourceBounded (upto (c .resources))
-  unfolding quantities upperBound
-  by-kind h =
-      let within : Quantity → Type 0 = λ q. z q ≤ upperBound c q in
-      let r = each-split within (map Cleared curves) (across (λ i. map (Provided i) services) (upto (c .resources))) h in (
-        each-of-map within Cleared curves (r .0),
-        each-imp (λ i. each-of-map within (Provided i) services) (upto (c .resources)) (each-of-across within (λ i. map (Provided i) services) (upto (c .resources)) (r .1)),
-      )
-
-  -- ---- the parts of each quantity add up to it, at any weight of the quantities
-  module _ (h : Quantity → ℤ) where
-    byPart : Priced → ℤ
-    byPart p = h (quantityOf p) *ℤ pos (part c z p)
-
-    byQuantity : Quantity → ℤ
-    byQuantity q = h q *ℤ pos (z q)
-
-    resource-parts : (i : ℕ) → ResourceBounded i → sumOf byPart (pricedOf i) ≡ sumOf byQuantity (map (Provided i) services)
-    unfolding byPart byQuantity sumOf quantityOf part serviceBound
-    resource-parts i u =
-        sum-append byPart (map (EnergyStep i) (upto energySteps)) (map (Whole i) reserveServices)
-        ∙ ap (λ (t : ℤ). t +ℤ sumOf byPart (map (Whole i) reserveServices))
-        (sum-map byPart (EnergyStep i) (upto energySteps)
-        ∙ filled-sum (h (Provided i energy)) (c .resource i .stepWidth) (z (Provided i energy)) energySteps (energy-below (onLine (c .resource i)) (widthOf (c .resource i .stepWidth) energySteps) (z (Provided i energy)) (u .0)))
-
-    curve-parts : (k : Curve) → CurveBounded k → sumOf byPart (curvePriced k) ≡ byQuantity (Cleared k)
-    unfolding byPart byQuantity quantityOf part
-    curve-parts k u = sum-map byPart (CurveStep k) (upto curveSteps) ∙ filled-sum (h (Cleared k)) (c .curveWidth k) (z (Cleared k)) curveSteps u
-
-    by-resource : Each ResourceBounded (upto (c .resources)) → sumOf byPart (across pricedOf (upto (c .resources))) ≡ sumOf byQuantity (across (λ i. map (Provided i) services) (upto (c .resources)))
-    by-resource v =
-        sum-across byPart pricedOf (upto (c .resources))
-        ∙ sum-each-ext (λ i. sumOf byPart (pricedOf i)) (λ i. sumOf byQuantity (map (Provided i) services)) (upto (c .resources)) (each-imp resource-parts (upto (c .resources)) v)
-        ∙ sym (sum-across byQuantity (λ i. map (Provided i) services) (upto (c .resources)))
-
-    by-curve : Each CurveBounded curves → sumOf byPart (across curvePriced curves) ≡ sumOf byQuantity (map Cleared curves)
-    by-curve v =
-        sum-across byPart curvePriced curves
-        ∙ sum-each-ext (λ k. sumOf byPart (curvePriced k)) (λ k. byQuantity (Cleared k)) curves (each-imp curve-parts curves v)
-        ∙ sym (sum-map byQuantity Cleared curves)
-
-    pub parts-sum : Bounded c z → sumOf (λ p. h (quantityOf p) *ℤ pos (part c z p)) (priced c) ≡ sumOf (λ q. h q *ℤ pos (z q)) (quantities c)
-    unfolding byPart byQuantity priced quantities
-    parts-sum v =
-        sum-append byPart (across pricedOf (upto (c .resources))) (across curvePriced curves)
-        ∙ rw (by-resource (by-kind v .1), by-curve (by-kind v .0)) (+ℤ-comm (sumOf byQuantity (across (λ i. map (Provided i) services) (upto (c .resources)))) (sumOf byQuantity (map Cleared curves)))
-        ∙ sym (sum-append byQuantity (map Cleared curves) (across (λ i. map (Provided i) services) (upto (c .resources))))
-
   -- ---- the programme's figures are the case's
   pub slack-is : Bounded c z → (r : Row) → L.slack (programme c) (parts c z) r ≡ slack c z r
   unfolding L.slack slack leftSide
-  slack-is v r = ap (λ (t : ℤ). t -ℤ rightSide c r) (parts-sum (coefficient c r) v)
+  slack-is v r = ap (λ (t : ℤ). t -ℤ rightSide c r) (parts-sum c z (coefficient c r) v)
 
   pub cost-is : L.cost (programme c) (parts c z) ≡ cost c z
   unfolding L.cost cost
@@ -133,7 +79,7 @@ module _ (c : Case) (z : Schedule) where
   unfolding part width
   whole-fits i s h = between h
 
-  resource-fits : (i : ℕ) → ResourceBounded i → Each PartFits (pricedOf i)
+  resource-fits : (i : ℕ) → ResourceBounded c z i → Each PartFits (pricedOf i)
   unfolding part width serviceBound
   resource-fits i u =
       each-join PartFits (map (EnergyStep i) (upto energySteps)) (map (Whole i) reserveServices)
@@ -149,7 +95,7 @@ module _ (c : Case) (z : Schedule) where
   unfolding priced
   parts-fit v =
       each-join PartFits (across pricedOf (upto (c .resources))) (across curvePriced curves)
-      (each-across PartFits pricedOf (upto (c .resources)) (each-imp resource-fits (upto (c .resources)) (by-kind v .1)))
+      (each-across PartFits pricedOf (upto (c .resources)) (each-imp resource-fits (upto (c .resources)) (by-kind c z v .1)))
       (each-across PartFits curvePriced curves (each-any (λ k. Each PartFits (curvePriced k)) curves curve-fits))
 
   row-fits : (y : Prices) → Bounded c z → (r : Row) → Meets (sense r) (slack c z r) × PriceMay (sense r) (y r) → L.RowFits (programme c) y (parts c z) r
