@@ -4,16 +4,16 @@ use Prim.Native.Nat.{ℕ, _≤_, _<_}
 use lib.IntN.{pos}
 use Rattle.arith.specs.Sums.{all, upto}
 use Rattle.market.specs.Case.{Case, Resource, Curve, Reserve}
-use Rattle.market.specs.CaseCheck.{countsRight, reserveInRange, resourceInRange, flowgateInRange, fieldsInRange, pairsOrdered, limitsOrdered, powers, ramps, reservePrices}
+use Rattle.market.specs.CaseCheck.{mostResources, mostZones, mostFlowgates, countsRight, reserveInRange, resourceInRange, flowgateInRange, fieldsInRange, pairsOrdered, limitsOrdered, powers, ramps, reservePrices}
 use Rattle.market.specs.Rows.{Balance, Market, Zone, Flowgate, Limited}
 use Rattle.market.specs.CheckInWords.{Between, EitherWay, ReserveWithin, ResourceWithin, FlowgateWithin, FieldsWithin, PairsInOrder, CheckInWords}
 use Rattle.market.proofs.Tests.{Decides, exactly, reworded, both, le-test, leℤ-test, between-test, most-test, either-test, each-test, below-test, curves-test, reserves-test}
 use Rattle.market.proofs.StepOrder.{steps-rule-test}
 
-counts-test : (r z f : ℕ) → Decides (countsRight r z f) (Between 1 64 r × Between 1 8 z × (f ≤ 16))
+counts-test : (r z f : ℕ) → Decides (countsRight r z f) (Between 1 mostResources r × Between 1 mostZones z × (f ≤ mostFlowgates))
 unfolding countsRight
 counts-test r z f =
-    reworded (both (both (between-test 1 64 r) (between-test 1 8 z)) (most-test 16 f)) (λ h. (h .0 .0, h .0 .1, h .1)) (λ h. ((h .0, h .1), h .2))
+    reworded (both (both (between-test 1 mostResources r) (between-test 1 mostZones z)) (most-test mostFlowgates f)) (λ h. (h .0 .0, h .0 .1, h .1)) (λ h. ((h .0, h .1), h .2))
 
 -- ---- 5
 reserve-test : (c : Case) (p : Reserve) → Decides (reserveInRange c p) (ReserveWithin c p)

@@ -11,10 +11,10 @@ use Rattle.arith.proofs.Lists.{across-append, across-one}
 use Rattle.arith.proofs.NaturalSums.{total-replicate}
 use Rattle.market.specs.Bytes.{u8At, u32At, i16At, i32At}
 use Rattle.market.specs.Case.{curves, energySteps}
-use Rattle.market.specs.CaseFile.{caseOf, resourceAt, resourcePlace, flowgatePlace}
+use Rattle.market.specs.CaseFile.{headSize, factorSize, flowgateHeadSize, flowgateSize, zonePlace, resourcePlace, flowgatePlace, resourceAt, caseOf}
 use Rattle.market.specs.Rows.{Zone}
-use Rattle.market.specs.Certificate.{certificateOf, amountAt, priceAt, amountsPlace, flowgatePricePlace}
-use Rattle.market.specs.Numbers.{Field, u8, u16, u32, i16, i32, fieldWidth, fieldAt, numbersAt, times, headFields, resourceFields, flowgateFields, caseFields, certificateFields, numbersOf, caseNumbers, certificateNumbers}
+use Rattle.market.specs.Certificate.{certificateHeadSize, zonePricesPlace, flowgatePricePlace, amountsPlace, amountAt, priceAt, certificateOf}
+use Rattle.market.specs.Numbers.{Field, u8, u16, u32, i16, i32, fieldWidth, fieldAt, numbersAt, times, headFields, curveFields, resourceFields, flowgateFields, caseFields, certificateHeadFields, entryFields, certificateFields, numbersOf, caseNumbers, certificateNumbers}
 use Rattle.market.specs.FieldsInOrder.{FieldsInOrder, headFigures, zoneFigures, resourceFigures, flowgateFigures, caseFigures, resourceClaims, certificateFigures}
 use Rattle.market.proofs.FileSizes.{times-width}
 
@@ -74,35 +74,35 @@ resource-in-order b p =
     ∙ rw (from-start plainFields b p, step-fields b p, add-zero p)
 
 -- ---- a flowgate's limit, and its factors
-flowgate-width : (r : ℕ) → totalOf fieldWidth (flowgateFields r) ≡ 4 + r * 2
+flowgate-width : (r : ℕ) → totalOf fieldWidth (flowgateFields r) ≡ flowgateSize r
 unfolding totalOf
 flowgate-width r = omega (arith, total-replicate fieldWidth r i16)
 
-factors-in-order : (r : ℕ) (b : List ℕ) (p : ℕ) → numbersAt (replicate r i16) b p ≡ map (λ i. i16At b (p + i * 2)) (upto r)
+factors-in-order : (r : ℕ) (b : List ℕ) (p : ℕ) → numbersAt (replicate r i16) b p ≡ map (λ i. i16At b (p + i * factorSize)) (upto r)
 unfolding numbersAt fieldAt totalOf
-factors-in-order r b p = rw (replicate-times r i16) (numbers-times r (i16 ∷ []) b p ∙ across-one (λ i. i16At b (p + i * 2)) (upto r))
+factors-in-order r b p = rw (replicate-times r i16) (numbers-times r (i16 ∷ []) b p ∙ across-one (λ i. i16At b (p + i * factorSize)) (upto r))
 
 -- ---- the case
 case-parts : (r z f : ℕ) (b : List ℕ) → numbersAt (caseFields r z f) b 5
     ≡ numbersAt headFields b 5
-    ++ (across (λ i. numbersAt (replicate 4 u32) b (170 + i * 16)) (upto z)
+    ++ (across (λ i. numbersAt curveFields b (zonePlace i)) (upto z)
     ++ (across (λ i. numbersAt resourceFields b (resourcePlace z i)) (upto r) ++ across (λ g. numbersAt (flowgateFields r) b (flowgatePlace r z g)) (upto f)))
 unfolding caseFields totalOf times across upto
 case-parts r z f b =
-    let zones = times z (replicate 4 u32) in
+    let zones = times z curveFields in
     let resources = times r resourceFields in
     let flowgates = times f (flowgateFields r) in
     numbers-append headFields (zones ++ (resources ++ flowgates)) b 5
-    ∙ rw (numbers-append zones (resources ++ flowgates) b 170, numbers-times z (replicate 4 u32) b 170, times-width z (replicate 4 u32), numbers-append resources flowgates b (170 + z * 16), numbers-times r resourceFields b (170 + z * 16), times-width r resourceFields, numbers-times f (flowgateFields r) b (170 + z * 16 + r * 154), flowgate-width r)
+    ∙ rw (numbers-append zones (resources ++ flowgates) b headSize, numbers-times z curveFields b headSize, times-width z curveFields, numbers-append resources flowgates b (zonePlace z), numbers-times r resourceFields b (zonePlace z), times-width r resourceFields, numbers-times f (flowgateFields r) b (resourcePlace z r), flowgate-width r)
 
-zone-in-order : (b : List ℕ) (i : ℕ) → numbersAt (replicate 4 u32) b (170 + i * 16) ≡ zoneFigures (caseOf b) i
+zone-in-order : (b : List ℕ) (i : ℕ) → numbersAt curveFields b (zonePlace i) ≡ zoneFigures (caseOf b) i
 unfolding fieldAt shifted caseOf
-zone-in-order b i = from-start (replicate 4 u32) b (170 + i * 16)
+zone-in-order b i = from-start curveFields b (zonePlace i)
 
 flowgate-in-order : (b : List ℕ) (f : ℕ) → numbersAt (flowgateFields (u8At b 5)) b (flowgatePlace (u8At b 5) (u8At b 6) f) ≡ flowgateFigures (caseOf b) f
 unfolding numbersAt fieldAt caseOf
 flowgate-in-order b f =
-    ap (λ (l : List ℤ). i32At b (flowgatePlace (u8At b 5) (u8At b 6) f) ∷ l) (factors-in-order (u8At b 5) b (flowgatePlace (u8At b 5) (u8At b 6) f + 4))
+    ap (λ (l : List ℤ). i32At b (flowgatePlace (u8At b 5) (u8At b 6) f) ∷ l) (factors-in-order (u8At b 5) b (flowgatePlace (u8At b 5) (u8At b 6) f + flowgateHeadSize))
 
 case-in-order : (b : List ℕ) → caseNumbers b ≡ caseFigures (caseOf b)
 unfolding numbersOf caseOf numbersAt fieldAt across upto
@@ -111,31 +111,28 @@ case-in-order b =
     ∙ rw (fun-ext (zone-in-order b), fun-ext (λ i. resource-in-order b (resourcePlace (u8At b 6) i)), fun-ext (flowgate-in-order b))
 
 -- ---- the certificate
-certificateHead : List Field
-certificateHead = u8 ∷ u8 ∷ u8 ∷ replicate 4 u32 ++ (i32 ∷ replicate 4 u32)
-
 certificate-parts : (r z f : ℕ) (q : List ℕ) → numbersAt (certificateFields r z f) q 5
-    ≡ numbersAt certificateHead q 5
-    ++ (across (λ i. numbersAt (replicate 4 u32) q (44 + i * 16)) (upto z)
-    ++ (across (λ g. numbersAt (u32 ∷ []) q (flowgatePricePlace z g)) (upto f) ++ across (λ i. numbersAt (replicate 10 u32) q (amountsPlace z f i)) (upto r)))
-unfolding certificateFields certificateHead totalOf
+    ≡ numbersAt certificateHeadFields q 5
+    ++ (across (λ i. numbersAt curveFields q (zonePricesPlace i)) (upto z)
+    ++ (across (λ g. numbersAt (u32 ∷ []) q (flowgatePricePlace z g)) (upto f) ++ across (λ i. numbersAt entryFields q (amountsPlace z f i)) (upto r)))
+unfolding certificateFields totalOf
 certificate-parts r z f q =
-    let zones = times z (replicate 4 u32) in
+    let zones = times z curveFields in
     let flowgates = times f (u32 ∷ []) in
-    let resources = times r (replicate 10 u32) in
-    numbers-append certificateHead (zones ++ (flowgates ++ resources)) q 5
-    ∙ rw (numbers-append zones (flowgates ++ resources) q 44, numbers-times z (replicate 4 u32) q 44, times-width z (replicate 4 u32), numbers-append flowgates resources q (44 + z * 16), numbers-times f (u32 ∷ []) q (44 + z * 16), times-width f (u32 ∷ []), numbers-times r (replicate 10 u32) q (44 + z * 16 + f * 4))
+    let resources = times r entryFields in
+    numbers-append certificateHeadFields (zones ++ (flowgates ++ resources)) q 5
+    ∙ rw (numbers-append zones (flowgates ++ resources) q certificateHeadSize, numbers-times z curveFields q certificateHeadSize, times-width z curveFields, numbers-append flowgates resources q (zonePricesPlace z), numbers-times f (u32 ∷ []) q (zonePricesPlace z), times-width f (u32 ∷ []), numbers-times r entryFields q (flowgatePricePlace z f))
 
-zone-prices-in-order : (q : List ℕ) (i : ℕ) → numbersAt (replicate 4 u32) q (44 + i * 16) ≡ map (λ c. certificateOf q .price (Zone i c)) curves
+zone-prices-in-order : (q : List ℕ) (i : ℕ) → numbersAt curveFields q (zonePricesPlace i) ≡ map (λ c. certificateOf q .price (Zone i c)) curves
 unfolding fieldAt shifted certificateOf priceAt
-zone-prices-in-order q i = from-start (replicate 4 u32) q (44 + i * 16)
+zone-prices-in-order q i = from-start curveFields q (zonePricesPlace i)
 
-claims-in-order : (q : List ℕ) (i : ℕ) → numbersAt (replicate 10 u32) q (amountsPlace (u8At q 6) (u8At q 7) i) ≡ resourceClaims (certificateOf q) i
+claims-in-order : (q : List ℕ) (i : ℕ) → numbersAt entryFields q (amountsPlace (u8At q 6) (u8At q 7) i) ≡ resourceClaims (certificateOf q) i
 unfolding fieldAt shifted certificateOf priceAt amountAt
-claims-in-order q i = from-start (replicate 10 u32) q (amountsPlace (u8At q 6) (u8At q 7) i)
+claims-in-order q i = from-start entryFields q (amountsPlace (u8At q 6) (u8At q 7) i)
 
 certificate-in-order : (q : List ℕ) → certificateNumbers q ≡ certificateFigures (certificateOf q)
-unfolding numbersOf certificateHead certificateOf numbersAt fieldAt amountAt priceAt
+unfolding numbersOf certificateOf numbersAt fieldAt amountAt priceAt
 certificate-in-order q =
     certificate-parts (u8At q 5) (u8At q 6) (u8At q 7) q
     ∙ rw (fun-ext (zone-prices-in-order q), fun-ext (claims-in-order q), across-one (λ f. pos (u32At q (flowgatePricePlace (u8At q 6) f))) (upto (u8At q 7)))

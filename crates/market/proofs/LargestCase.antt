@@ -5,15 +5,13 @@ use native.Mathlib.Omega.{arith}
 use Rattle.arith.specs.Sums.{totalOf}
 use Rattle.arith.proofs.NaturalSums.{total-append, total-longer-map, total-longer-across}
 use Rattle.market.specs.Case.{Case, curves}
-use Rattle.market.specs.CaseCheck.{mostResources, mostZones, mostFlowgates}
+use Rattle.market.specs.CaseCheck.{mostResources, mostZones, mostFlowgates, CountsWithin}
 use Rattle.market.specs.UpperBounds.{services, Quantity, Cleared, Provided, quantities}
 use Rattle.market.specs.Rows.{Row, Zone, Flowgate, Limited, limits, marketRows, zoneRows, flowgateRows, limitRows, rows}
 use Rattle.market.proofs.Families.{provided}
 
-pub record CountRanges (c : Case) : Type 0 where
-  pub most-resources : c .resources ≤ mostResources
-  pub most-zones : c .zones ≤ mostZones
-  pub most-flowgates : c .flowgates ≤ mostFlowgates
+abbrev pub CountRanges : Case → Type 0
+CountRanges c = CountsWithin (c .resources) (c .zones) (c .flowgates)
 
 abbrev pub largest : Case → Case
 largest c =

@@ -8,43 +8,43 @@ use Rattle.arith.specs.Sums.{upto, across}
 use Rattle.arith.proofs.Lists.{length-across, length-upto}
 use Rattle.market.specs.Case.{Case, curves, energySteps, curveSteps}
 use Rattle.market.specs.UpperBounds.{Schedule, reserveServices, services, Provided, quantities}
-use Rattle.market.specs.Rows.{rows, Zone, Flowgate, Limited, limits, marketRows, zoneRows, flowgateRows, limitRows}
+use Rattle.market.specs.Rows.{rows, rowCount, Zone, Flowgate, Limited, limits, marketRows, zoneRows, flowgateRows, limitRows}
 use Rattle.market.specs.Certificate.{Prices}
-use Rattle.market.specs.Cost.{priced, pricedOf, curvePriced, EnergyStep, Whole, CurveStep}
+use Rattle.market.specs.Cost.{priced, pricedOf, resourcePricedCount, pricedCount, curvePriced, EnergyStep, Whole, CurveStep}
 use Rattle.market.specs.Charges.{rowCharge, pricedCharge, charges, chargeCount}
-use Rattle.market.specs.Prices.{LMP, zonePrices, priceList, priceCount}
+use Rattle.market.specs.Prices.{LMP, zonePriceCount, zonePrices, priceList, priceCount}
 
-pub row-count : (c : Case) → length (rows c) ≡ 5 + c .zones * 4 + c .flowgates + c .resources * 5
+pub row-count : (c : Case) → length (rows c) ≡ rowCount c
 unfolding rows
 row-count c =
     omega (
       arith,
       length-append (zoneRows c) (flowgateRows c ++ limitRows c),
       length-append (flowgateRows c) (limitRows c),
-      length-across (λ z. map (Zone z) curves) 4 (λ z. length-map curves (Zone z)) (upto (c .zones)),
+      length-across (λ z. map (Zone z) curves) (length curves) (λ z. length-map curves (Zone z)) (upto (c .zones)),
       length-upto (c .zones),
       length-map (upto (c .flowgates)) Flowgate,
       length-upto (c .flowgates),
-      length-across (λ i. map (Limited i) limits) 5 (λ i. length-map limits (Limited i)) (upto (c .resources)),
+      length-across (λ i. map (Limited i) limits) (length limits) (λ i. length-map limits (Limited i)) (upto (c .resources)),
       length-upto (c .resources),
     )
 
-pub quantity-count : (c : Case) → length (quantities c) ≡ 4 + c .resources * 5
+pub quantity-count : (c : Case) → length (quantities c) ≡ length curves + c .resources * length services
 unfolding quantities
-quantity-count c = omega (arith, length-across (λ i. map (Provided i) services) 5 (λ i. length-map services (Provided i)) (upto (c .resources)), length-upto (c .resources))
+quantity-count c = omega (arith, length-across (λ i. map (Provided i) services) (length services) (λ i. length-map services (Provided i)) (upto (c .resources)), length-upto (c .resources))
 
-resource-priced : (i : ℕ) → length (pricedOf i) ≡ 14
+resource-priced : (i : ℕ) → length (pricedOf i) ≡ resourcePricedCount
 resource-priced i = omega (arith, length-append (map (EnergyStep i) (upto energySteps)) (map (Whole i) reserveServices), length-map (upto energySteps) (EnergyStep i), length-upto energySteps)
 
-pub priced-count : (c : Case) → length (priced c) ≡ c .resources * 14 + 16
+pub priced-count : (c : Case) → length (priced c) ≡ pricedCount c
 unfolding priced
 priced-count c =
     omega (
       arith,
       length-append (across pricedOf (upto (c .resources))) (across curvePriced curves),
-      length-across pricedOf 14 resource-priced (upto (c .resources)),
+      length-across pricedOf resourcePricedCount resource-priced (upto (c .resources)),
       length-upto (c .resources),
-      length-across curvePriced 4 (λ k. omega (arith, length-map (upto curveSteps) (CurveStep k), length-upto curveSteps)) curves,
+      length-across curvePriced curveSteps (λ k. omega (arith, length-map (upto curveSteps) (CurveStep k), length-upto curveSteps)) curves,
     )
 
 pub charge-count : (c : Case) (x : Schedule) (y : Prices) → length (charges c x y) ≡ chargeCount c
@@ -67,6 +67,6 @@ price-count c y =
       length-append (map (LMP c y) (upto (c .resources))) (across (zonePrices y) (upto (c .zones))),
       length-map (upto (c .resources)) (LMP c y),
       length-upto (c .resources),
-      length-across (zonePrices y) 4 (λ z. refl) (upto (c .zones)),
+      length-across (zonePrices y) zonePriceCount (λ z. refl) (upto (c .zones)),
       length-upto (c .zones),
     )

@@ -11,9 +11,9 @@ use lib.Seq.{take-append-seam}
 use Rattle.arith.proofs.Lists.{each-join, each-split}
 use Rattle.market.specs.declared.Refusal.the-variants.{CaseLength, CaseVersion, CaseSize, FieldRange, StepRule, LimitPair, CertificateLength, CertificateVersion, CertificateSize, BufferShort}
 use Rattle.market.specs.declared.Transfer.the-variants.{Written}
-use Rattle.market.specs.CaseFile.{caseOf, caseSize}
+use Rattle.market.specs.CaseFile.{leastCaseSize, caseOf, caseSize}
 use Rattle.market.specs.CaseCheck.{caseSizeRight, fieldsInRange, stepsRule, limitsOrdered}
-use Rattle.market.specs.Certificate.{certificateSize}
+use Rattle.market.specs.Certificate.{leastCertificateSize, certificateSize}
 use Rattle.market.specs.Refusals.{Finding, clear, holds, unless, firstOf, transferOf, bufferAfter, AllClear}
 use Rattle.market.specs.Outcome.{caseGrounds, room}
 use Rattle.market.specs.Numbers.{caseFields, certificateFields, numbersOf, caseNumbers, certificateNumbers, certificateFileGrounds, caseFile, fieldGrounds, readCaseGrounds, readCertificateGrounds, readCase, readCertificate, readCaseBuffer, readCertificateBuffer, fileFor, listGrounds, writeCaseGrounds, writeCertificateGrounds, writeCase, writeCertificate, writeCaseBuffer, writeCertificateBuffer}
@@ -86,7 +86,7 @@ abbrev cases : FileKind
 cases =
     record {
       fields = caseFields;
-      least = 170;
+      least = leastCaseSize;
       size = caseSize;
       wrongLength = CaseLength;
       wrongVersion = CaseVersion;
@@ -102,7 +102,7 @@ abbrev certificates : FileKind
 certificates =
     record {
       fields = certificateFields;
-      least = 44;
+      least = leastCertificateSize;
       size = certificateSize;
       wrongLength = CertificateLength;
       wrongVersion = CertificateVersion;

@@ -1,7 +1,7 @@
 -- The tests behind refusals 1 to 7 (01, 'The case file', ranges; 'How each operation refuses').
 use mathlib.Core.Bool.{Bool, true, _&&_}
 use mathlib.Core.List.{List, [], _∷_}
-use Prim.Native.Nat.{ℕ, zero, suc, _+_, _-_}
+use Prim.Native.Nat.{ℕ, zero, suc, _+_, _-_, _≤_}
 use lib.ListN.{length}
 use lib.Dec.{leb, ltb, eqb}
 use lib.IntN.{ℤ, pos}
@@ -11,7 +11,7 @@ use Rattle.market.specs.Bytes.{u8At, u32At, within, withinℤ, ±}
 use Rattle.market.specs.Case.{Case, Resource, curves, Reserve, reserves, widthOf, energySteps, curveSteps}
 use Rattle.market.specs.CaseFile.{caseSize}
 
--- the largest counts
+-- ---- 3: the largest counts
 abbrev pub mostResources : ℕ
 mostResources = 64
 
@@ -21,6 +21,17 @@ mostZones = 8
 abbrev pub mostFlowgates : ℕ
 mostFlowgates = 16
 
+-- r, z and f are at most these
+pub record CountsWithin (r z f : ℕ) : Type 0 where
+  pub most-resources : r ≤ mostResources
+  pub most-zones : z ≤ mostZones
+  pub most-flowgates : f ≤ mostFlowgates
+
+-- the largest file
+abbrev pub largestCaseSize : ℕ
+largestCaseSize = caseSize mostResources mostZones mostFlowgates
+
+-- ---- 1 to 4
 -- 1, and 8 of a certificate: at least so many bytes, and as many as the length field says
 unfoldable pub lengthRight : ℕ → List ℕ → Bool
 lengthRight least b = leb least (length b) && eqb (u32At b 0 + 4) (length b)

@@ -1,13 +1,13 @@
 -- The gap and the listed charges, in charge order (01, 'Certificate, cost, bound, charges').
 -- 'Charge' is 01's own term: what one row, or one priced quantity, adds to the gap.
 use mathlib.Core.List.{List, _++_, map}
-use Prim.Native.Nat.{ℕ, _+_, _*_}
+use Prim.Native.Nat.{ℕ, _+_}
 use lib.IntN.{ℤ, pos, _*ℤ_, _-ℤ_}
 use Rattle.market.specs.Case.{Case}
 use Rattle.market.specs.UpperBounds.{Schedule}
-use Rattle.market.specs.Rows.{Row, rows, slack}
+use Rattle.market.specs.Rows.{Row, rows, rowCount, slack}
 use Rattle.market.specs.Certificate.{Prices}
-use Rattle.market.specs.Cost.{Priced, priced, part, cost}
+use Rattle.market.specs.Cost.{Priced, priced, pricedCount, part, cost}
 use Rattle.market.specs.Bound.{netPrice, lowest, bound}
 
 abbrev pub gap : Case → Schedule → Prices → ℤ
@@ -23,5 +23,6 @@ pricedCharge c x y p = netPrice c y p *ℤ pos (part c x p) -ℤ lowest c y p
 unfoldable pub charges : Case → Schedule → Prices → List ℤ
 charges c x y = map (rowCharge c x y) (rows c) ++ map (pricedCharge c x y) (priced c)
 
+-- 21 + 4Z + F + 19R
 abbrev pub chargeCount : Case → ℕ
-chargeCount c = 21 + 4 * c .zones + c .flowgates + 19 * c .resources
+chargeCount c = rowCount c + pricedCount c

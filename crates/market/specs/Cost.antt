@@ -2,7 +2,8 @@
 -- 'Grain' is 01's own term: one thousandth of a cent per MWh times one kW.
 use mathlib.Core.Bool.{cond}
 use mathlib.Core.List.{List, _++_, map}
-use Prim.Native.Nat.{ℕ, _-_, min}
+use Prim.Native.Nat.{ℕ, _+_, _*_, _-_, min}
+use lib.ListN.{length}
 use lib.IntN.{ℤ, pos, negℤ, _*ℤ_}
 use Rattle.arith.specs.Sums.{upto, sumOf, across}
 use Rattle.market.specs.Case.{Case, Resource, Curve, curves, widthOf, energySteps, curveSteps}
@@ -25,6 +26,13 @@ curvePriced k = map (CurveStep k) (upto curveSteps)
 -- in charge order
 unfoldable pub priced : Case → List Priced
 priced c = across pricedOf (upto (c .resources)) ++ across curvePriced curves
+
+-- how many of a resource, and in all
+abbrev pub resourcePricedCount : ℕ
+resourcePricedCount = energySteps + length reserveServices
+
+abbrev pub pricedCount : Case → ℕ
+pricedCount c = c .resources * resourcePricedCount + length curves * curveSteps
 
 -- a step has its quantity's coefficient
 unfoldable pub quantityOf : Priced → Quantity

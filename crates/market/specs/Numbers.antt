@@ -9,9 +9,12 @@ use Rattle.arith.specs.Sums.{totalOf, upto, across}
 use Rattle.market.specs.declared.Refusal.the-variants.{Counts, FieldRange, StepRule, LimitPair, CertificateLength, CertificateVersion, CertificateSize, NumberList}
 use Rattle.market.specs.declared.Transfer.{Transfer}
 use Rattle.market.specs.Bytes.{u8At, u16At, u32At, i16At, i32At, withinℤ}
-use Rattle.market.specs.CaseFile.{caseOf, caseSize}
+use Rattle.market.specs.Case.{curves, energySteps}
+use Rattle.market.specs.CaseFile.{caseOf}
 use Rattle.market.specs.CaseCheck.{mostResources, mostZones, mostFlowgates, lengthRight, versionRight, countsRight, fieldsInRange, stepsRule, limitsOrdered}
-use Rattle.market.specs.Certificate.{certificateSize}
+use Rattle.market.specs.UpperBounds.{services}
+use Rattle.market.specs.Rows.{limits}
+use Rattle.market.specs.Certificate.{leastCertificateSize, certificateSize}
 use Rattle.market.specs.Refusals.{Finding, unless, firstOf, transferOf, bufferAfter}
 use Rattle.market.specs.Outcome.{caseGrounds, room}
 
@@ -90,18 +93,28 @@ times n fs = across (λ i. fs) (upto n)
 abbrev pub headFields : List Field
 headFields = u8 ∷ u8 ∷ u8 ∷ u32 ∷ replicate 9 u16 ++ replicate 35 u32
 
+-- a number for each curve
+abbrev pub curveFields : List Field
+curveFields = replicate (length curves) u32
+
 abbrev pub resourceFields : List Field
-resourceFields = replicate 6 u8 ++ (i32 ∷ replicate 16 u32 ++ times 10 (u32 ∷ i32 ∷ []))
+resourceFields = replicate 6 u8 ++ (i32 ∷ replicate 16 u32 ++ times energySteps (u32 ∷ i32 ∷ []))
 
 abbrev pub flowgateFields : ℕ → List Field
 flowgateFields r = i32 ∷ replicate r i16
 
 unfoldable pub caseFields : ℕ → ℕ → ℕ → List Field
-caseFields r z f = headFields ++ (times z (replicate 4 u32) ++ (times r resourceFields ++ times f (flowgateFields r)))
+caseFields r z f = headFields ++ (times z curveFields ++ (times r resourceFields ++ times f (flowgateFields r)))
+
+abbrev pub certificateHeadFields : List Field
+certificateHeadFields = u8 ∷ u8 ∷ u8 ∷ curveFields ++ (i32 ∷ curveFields)
+
+-- a resource's amounts, and the prices of its rows
+abbrev pub entryFields : List Field
+entryFields = replicate (length services + length limits) u32
 
 unfoldable pub certificateFields : ℕ → ℕ → ℕ → List Field
-certificateFields r z f =
-    (u8 ∷ u8 ∷ u8 ∷ replicate 4 u32 ++ (i32 ∷ replicate 4 u32)) ++ (times z (replicate 4 u32) ++ (times f (u32 ∷ []) ++ times r (replicate 10 u32)))
+certificateFields r z f = certificateHeadFields ++ (times z curveFields ++ (times f (u32 ∷ []) ++ times r entryFields))
 
 -- length, version 1, fields
 unfoldable pub fileOf : List Field → List ℤ → List ℕ
@@ -122,7 +135,7 @@ certificateNumbers = numbersOf certificateFields
 
 unfoldable pub certificateFileGrounds : List ℕ → List Finding
 certificateFileGrounds q =
-    unless (lengthRight 44 q) CertificateLength
+    unless (lengthRight leastCertificateSize q) CertificateLength
     ∷ unless (versionRight q) CertificateVersion
     ∷ unless (countsRight (u8At q 5) (u8At q 6) (u8At q 7)) Counts
     ∷ unless (eqb (length q) (certificateSize (u8At q 5) (u8At q 6) (u8At q 7))) CertificateSize

@@ -14,11 +14,11 @@ use Rattle.market.specs.declared.Outcome.{Outcome}
 use Rattle.market.specs.declared.Delivery.{Delivery}
 use Rattle.market.specs.Bytes.{withinℤ}
 use Rattle.market.specs.Case.{Case}
-use Rattle.market.specs.CaseFile.{caseOf}
+use Rattle.market.specs.CaseFile.{leastCaseSize, caseOf}
 use Rattle.market.specs.CaseCheck.{lengthRight, versionRight, countsRight, caseSizeRight, fieldsInRange, stepsRule, limitsOrdered}
 use Rattle.market.specs.UpperBounds.{Quantity, quantities, upperBound}
 use Rattle.market.specs.Rows.{Row, rows, Sense, equal, atLeast, sense, slack}
-use Rattle.market.specs.Certificate.{Certificate, certificateOf, certificateSize, lowestPrice, highestPrice}
+use Rattle.market.specs.Certificate.{Certificate, certificateOf, leastCertificateSize, certificateSize, lowestPrice, highestPrice}
 use Rattle.market.specs.Cost.{cost}
 use Rattle.market.specs.Bound.{bound}
 use Rattle.market.specs.Charges.{gap, charges, chargeCount}
@@ -28,7 +28,7 @@ use Rattle.market.specs.Refusals.{Finding, unless, firstFailing, firstOf
 -- ---- check a case: 1 to 7, of the bytes b
 unfoldable pub caseGrounds : List ℕ → List Finding
 caseGrounds b =
-    unless (lengthRight 170 b) CaseLength
+    unless (lengthRight leastCaseSize b) CaseLength
     ∷ unless (versionRight b) CaseVersion
     ∷ unless (countsRight (caseOf b .resources) (caseOf b .zones) (caseOf b .flowgates)) Counts
     ∷ unless (caseSizeRight b (caseOf b)) CaseSize
@@ -63,7 +63,7 @@ rowMet c k r = meets (sense r) (slack c (k .amount) r)
 
 unfoldable pub certificateGrounds : Case → List ℕ → Certificate → List Finding
 certificateGrounds c q k =
-    unless (lengthRight 44 q) CertificateLength
+    unless (lengthRight leastCertificateSize q) CertificateLength
     ∷ unless (versionRight q) CertificateVersion
     ∷ unless (sameCounts c k) CountsDiffer
     ∷ unless (eqb (length q) (certificateSize (c .resources) (c .zones) (c .flowgates))) CertificateSize

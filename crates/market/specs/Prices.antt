@@ -27,6 +27,9 @@ regulatingPrice y z = bothRows y z operating +ℤ bothRows y z regulatingPlusSpi
 unfoldable pub shortTermPrice : Prices → ℕ → ℤ
 shortTermPrice y z = bothRows y z shortTerm
 
+abbrev pub zonePriceCount : ℕ
+zonePriceCount = 4
+
 abbrev pub zonePrices : Prices → ℕ → List ℤ
 zonePrices y z = regulatingPrice y z ∷ spinningPrice y z ∷ supplementalPrice y z ∷ shortTermPrice y z ∷ []
 
@@ -35,4 +38,4 @@ unfoldable pub priceList : Case → Prices → List ℤ
 priceList c y = map (LMP c y) (upto (c .resources)) ++ across (zonePrices y) (upto (c .zones))
 
 abbrev pub priceCount : Case → ℕ
-priceCount c = c .resources + 4 * c .zones
+priceCount c = c .resources + zonePriceCount * c .zones

@@ -3,7 +3,8 @@
 use mathlib.Core.Bool.{cond, _&&_}
 use mathlib.Core.List.{List, [], _∷_, _++_, map}
 use mathlib.Core.Path.{_≡_}
-use Prim.Native.Nat.{ℕ, suc, _≤_}
+use Prim.Native.Nat.{ℕ, suc, _+_, _*_, _≤_}
+use lib.ListN.{length}
 use lib.Dec.{eqb}
 use lib.IntN.{ℤ, pos, negsuc, negℤ, _*ℤ_, _-ℤ_}
 use lib.Signed.{_≤ℤ_}
@@ -43,6 +44,10 @@ limitRows c = across (λ i. map (Limited i) limits) (upto (c .resources))
 -- row 1 is the first
 unfoldable pub rows : Case → List Row
 rows c = Balance ∷ (marketRows ++ (zoneRows c ++ (flowgateRows c ++ limitRows c)))
+
+-- how many: row 1, one for each curve in the market and in each zone, one for each flowgate, a resource's own
+abbrev pub rowCount : Case → ℕ
+rowCount c = 1 + length curves + c .zones * length curves + c .flowgates + c .resources * length limits
 
 -- row 1 is an equation, all others are 'at least'
 pub data Sense : Type 0 where
