@@ -4,33 +4,34 @@ use mathlib.Core.List.{List, _++_}
 use mathlib.Core.Logic.{_↔_}
 use Prim.Native.Nat.{ℕ}
 use native.Mathlib.Omega.{arith}
-use lib.Dec.{leb→le}
 use lib.IntN.{ℤ, pos, _-ℤ_}
 use lib.ListN.{length, drop}
 use lib.Signed.{_≤ℤ_, leZ}
-use Rattle.arith.specs.Sums.{sumOf, Each, all}
+use Rattle.arith.specs.Sums.{sumOf, Each}
 use Rattle.arith.proofs.Linear.{sorted, count}
 use Rattle.arith.proofs.Lists.{each-imp, each-split}
 use Rattle.arith.proofs.AllTests.{all-each, and-split}
 use Rattle.arith.proofs.Duality as D
-use Rattle.market.specs.declared.Refusal.the-variants.{PriceRange, AboveBound, RowBroken}
+use Rattle.market.specs.declared.Refusal.the-variants.{RowBroken}
 use Rattle.market.specs.declared.Outcome.the-variants.{Accepted}
 use Rattle.market.specs.declared.Delivery.the-variants.{Delivered}
 use Rattle.market.specs.declared.Valuation.{Valuation}
 use Rattle.market.specs.Case.{Case}
 use Rattle.market.specs.CaseFile.{caseOf}
-use Rattle.market.specs.UpperBounds.{quantities, upperBound, Schedule}
+use Rattle.market.specs.UpperBounds.{Schedule}
 use Rattle.market.specs.Rows.{Sense, equal, atLeast, rows, sense, slack, Bounded, Met}
 use Rattle.market.specs.Certificate.{Certificate, Prices, certificateOf, lowestPrice, highestPrice}
 use Rattle.market.specs.Cost.{cost}
 use Rattle.market.specs.Bound.{bound}
 use Rattle.market.specs.Charges.{charges, chargeCount}
 use Rattle.market.specs.Refusals.{Finding, clear, holds, firstOf, outcomeOf, deliveryOf, bufferAfter, AllClear}
-use Rattle.market.specs.Outcome.{outcome, grounds, valued, valuation, caseGrounds, certificateGrounds, priceRight, withinBound, rowMet, listedCharges, chargeGrounds, chargeAnswer, chargeBuffer}
+use Rattle.market.specs.Outcome.{outcome, grounds, valued, valuation, caseGrounds, certificateGrounds, priceRight, rowMet, listedCharges, chargeGrounds, chargeAnswer, chargeBuffer}
 use Rattle.market.specs.Promise.{Demand3}
 use Rattle.market.proofs.CaseLinearProgramme.{programme, parts, PriceMay, PricesMay, cost-is, bound-is, charges-are, feasible}
 use Rattle.market.proofs.Lengths.{charge-count}
-use Rattle.market.proofs.Grounds.{none-holds, unless-clear, none-fails, meets-Meets}
+use Rattle.market.proofs.Grounds.{none-holds, none-fails, meets-Meets}
+use Rattle.market.proofs.Passed.{CertificatePassed, certificate-passed}
+use Rattle.market.proofs.Ranges.{bounded}
 
 -- ---- of a case, row prices that may stand, and a schedule
 module _ (c : Case) (y : Prices) (may : PricesMay c y) where
@@ -53,27 +54,21 @@ price-may : (s : Sense) (most : ℕ) (v : ℤ) → lowestPrice s most ≤ℤ v �
 price-may equal most v h = tt
 price-may atLeast most v h = h
 
-module _ (c : Case) (q : List ℕ) (k : Certificate) (h : AllClear (certificateGrounds c q k)) where
+module _ (c : Case) (q : List ℕ) (k : Certificate) (h : CertificatePassed c q k) where
   prices-may : PricesMay c (k .price)
-  unfolding certificateGrounds
   prices-may =
       each-imp
       (λ r t. price-may (sense r) (highestPrice r) (k .price r) (record { le = and-split (leZ (lowestPrice (sense r) (highestPrice r)) (k .price r)) (leZ (k .price r) (pos (highestPrice r))) t .0 }))
-      (rows c) (all-each (priceRight k) (rows c) (unless-clear (all (priceRight k) (rows c)) PriceRange (h .1 .1 .1 .1 .0)))
-
-  within-bounds : Bounded c (k .amount)
-  unfolding certificateGrounds
-  within-bounds = each-imp (λ a t. leb→le (k .amount a) (upperBound c a) t) (quantities c) (none-fails (withinBound c k) AboveBound 1 (quantities c) (h .1 .1 .1 .1 .1 .0))
+      (rows c) (all-each (priceRight k) (rows c) (h .prices-right))
 
   rows-met : Met c (k .amount)
-  unfolding certificateGrounds
-  rows-met = each-imp (λ r t. meets-Meets (sense r) (slack c (k .amount) r) t) (rows c) (none-fails (rowMet c k) RowBroken 1 (rows c) (h .1 .1 .1 .1 .1 .1 .0))
+  rows-met = each-imp (λ r t. meets-Meets (sense r) (slack c (k .amount) r) t) (rows c) (none-fails (rowMet c k) RowBroken 1 (rows c) (h .rows-met))
 
 less-gap : (a b : ℤ) → a -ℤ (a -ℤ b) ≡ b
 less-gap a b = simp sorted (simp count (omega arith))
 
 -- accepted with v: no ground holds, and v is the valuation
-accepted-is : (w v : Valuation) (f : Finding) → outcomeOf w f ≡ Accepted v → (f ≡ clear) × (w ≡ v)
+pub accepted-is : (w v : Valuation) (f : Finding) → outcomeOf w f ≡ Accepted v → (f ≡ clear) × (w ≡ v)
 accepted-is w v clear e = (cc, cc)
 accepted-is w v (holds r) e = (cc, cc)
 
@@ -86,17 +81,20 @@ module _ (b q : List ℕ) (paid least gap : ℤ) (e : outcome b q ≡ Accepted (
   unfolding outcome
   is = accepted-is (valuation (caseOf b) (certificateOf q)) (valued paid least gap) (firstOf (grounds b q)) e
 
-  passed : AllClear (caseGrounds b) × AllClear (certificateGrounds (caseOf b) q (certificateOf q))
-  passed = each-split (λ g. g ≡ clear) (caseGrounds b) (certificateGrounds (caseOf b) q (certificateOf q)) (none-holds (grounds b q) (is .0))
+  clear-both : AllClear (caseGrounds b) × AllClear (certificateGrounds (caseOf b) q (certificateOf q))
+  clear-both = each-split (λ g. g ≡ clear) (caseGrounds b) (certificateGrounds (caseOf b) q (certificateOf q)) (none-holds (grounds b q) (is .0))
+
+  passed : CertificatePassed (caseOf b) q (certificateOf q)
+  passed = certificate-passed (caseOf b) q (certificateOf q) (clear-both .1)
 
   v : Bounded (caseOf b) (certificateOf q .amount)
-  v = within-bounds (caseOf b) q (certificateOf q) (passed .1)
+  v = bounded (caseOf b) (certificateOf q) (passed .amounts-within)
 
   m : Met (caseOf b) (certificateOf q .amount)
-  m = rows-met (caseOf b) q (certificateOf q) (passed .1)
+  m = rows-met (caseOf b) q (certificateOf q) passed
 
   s : PricesMay (caseOf b) (certificateOf q .price)
-  s = prices-may (caseOf b) q (certificateOf q) (passed .1)
+  s = prices-may (caseOf b) q (certificateOf q) passed
 
   paid-is : paid ≡ cost (caseOf b) (certificateOf q .amount)
   unfolding valuation
@@ -122,7 +120,7 @@ module _ (b q : List ℕ) (paid least gap : ℤ) (e : outcome b q ≡ Accepted (
 pub demand3 : Demand3
 demand3 b q paid least gap e =
     record {
-      valid = passed b q paid least gap e .0;
+      valid = clear-both b q paid least gap e .0;
       bounded = v b q paid least gap e;
       met = m b q paid least gap e;
       paid-is = paid-is b q paid least gap e;

@@ -1,8 +1,7 @@
 -- Lists of grounds: what it says of each that the first that holds is none, or is this one.
-use mathlib.Core.Path.{_≡_, refl, sym, ap, subst}
+use mathlib.Core.Path.{_≡_, refl, sym, _∙_, ap, subst}
 use mathlib.Core.Bool.{Bool, true, false}
 use mathlib.Core.List.{List, [], _∷_, _++_}
-use mathlib.Core.Logic.{_↔_}
 use Prim.Native.Nat.{ℕ, suc}
 use native.Mathlib.Omega.{arith}
 use lib.Dec.{T}
@@ -15,6 +14,7 @@ use Rattle.market.specs.declared.Refusal.{Refusal}
 use Rattle.market.specs.Rows.{Sense, equal, atLeast, Meets}
 use Rattle.market.specs.Refusals.{Finding, clear, holds, unless, firstFailing, firstOf, FirstHolds, AllClear}
 use Rattle.market.specs.Outcome.{meets}
+use Rattle.market.proofs.FirstFailing.{orElse}
 
 pub not-clear : {A : Type 0} (r : Refusal) → holds r ≡ clear → A
 not-clear r h = absurd (let z : _≡_ {A = ℕ} 0 1 = cc in omega arith)
@@ -49,6 +49,32 @@ after-clear (holds s ∷ gs) later r h = not-clear s (h .0)
 
 pub holds-first : (gs : List Finding) (r : Refusal) → FirstHolds gs r → firstOf gs ≡ holds r
 holds-first gs r h = rw (h .are) (after-clear (h .earlier) (h .later) r (h .clear-before))
+
+-- ---- one list behind another
+pub first-of-append : (gs hs : List Finding) → firstOf (gs ++ hs) ≡ orElse (firstOf gs) (firstOf hs)
+unfolding firstOf
+first-of-append [] hs = refl
+first-of-append (clear ∷ gs) hs = first-of-append gs hs
+first-of-append (holds r ∷ gs) hs = refl
+
+module _ (gs hs : List Finding) where
+  pub first-later : firstOf gs ≡ clear → firstOf (gs ++ hs) ≡ firstOf hs
+  first-later h = first-of-append gs hs ∙ ap (λ (f : Finding). orElse f (firstOf hs)) h
+
+  pub first-earlier : (r : Refusal) → firstOf gs ≡ holds r → firstOf (gs ++ hs) ≡ holds r
+  first-earlier r h = first-of-append gs hs ∙ ap (λ (f : Finding). orElse f (firstOf hs)) h
+
+  pub earlier-clear : firstOf (gs ++ hs) ≡ clear → firstOf gs ≡ clear
+  earlier-clear h = go (firstOf gs) (firstOf hs) (sym (first-of-append gs hs) ∙ h)
+    where
+      go : (f g : Finding) → orElse f g ≡ clear → f ≡ clear
+      go clear g e = refl
+      go (holds r) g e = e
+
+pub first-of-one : (g : Finding) → firstOf (g ∷ []) ≡ g
+unfolding firstOf
+first-of-one clear = refl
+first-of-one (holds r) = refl
 
 -- ---- single grounds
 pub unless-clear : (t : Bool) (r : Refusal) → unless t r ≡ clear → T t

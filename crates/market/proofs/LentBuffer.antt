@@ -1,29 +1,22 @@
 -- A lent buffer: after the grounds gs of an operation comes 15, and the first that holds decides what is answered and whether
 -- the buffer is written.
-use mathlib.Core.Path.{_≡_, refl, _∙_, ap}
+use mathlib.Core.Path.{_≡_, _∙_, ap}
 use mathlib.Core.Bool.{Bool}
 use mathlib.Core.List.{List, [], _∷_, _++_}
 use Prim.Native.Nat.{ℕ, _<_, _≤_}
-use native.Mathlib.Omega.{arith}
 use borrow.Author.Tests.{le-leb, lt-leb}
 use Rattle.market.specs.declared.Refusal.{Refusal}
 use Rattle.market.specs.declared.Refusal.the-variants.{BufferShort}
 use Rattle.market.specs.Refusals.{Finding, clear, holds, unless, firstOf}
 use Rattle.market.specs.Outcome.{room}
+use Rattle.market.proofs.Grounds.{first-later, first-earlier, first-of-one}
 
 -- ---- one ground more
 pub first-then : (gs : List Finding) (g : Finding) → firstOf gs ≡ clear → firstOf (gs ++ (g ∷ [])) ≡ g
-unfolding firstOf
-first-then [] clear h = refl
-first-then [] (holds r) h = refl
-first-then (clear ∷ gs) g h = first-then gs g h
-first-then (holds r ∷ gs) g h = absurd (let z : _≡_ {A = ℕ} 0 1 = cc in omega arith)
+first-then gs g h = first-later gs (g ∷ []) h ∙ first-of-one g
 
 pub first-stays : (gs : List Finding) (g : Finding) (r : Refusal) → firstOf gs ≡ holds r → firstOf (gs ++ (g ∷ [])) ≡ holds r
-unfolding firstOf
-first-stays [] g r h = absurd (let z : _≡_ {A = ℕ} 0 1 = cc in omega arith)
-first-stays (clear ∷ gs) g r h = first-stays gs g r h
-first-stays (holds s ∷ gs) g r h = h
+first-stays gs g r h = first-earlier gs (g ∷ []) r h
 
 -- ---- 15, for a buffer of n elements of which `needed` are to be written
 module _ (gs : List Finding) (needed n : ℕ) where

@@ -1,7 +1,10 @@
 pub mod Computed
 pub mod Grounds
+pub mod Passed
 pub mod LentBuffer
+pub mod FirstAt
 pub mod RefusedPlaces
+pub mod Digits
 pub mod RefusalText
 pub mod PrintedRefusal
 pub mod Refused
@@ -22,12 +25,14 @@ pub mod StepOrder
 pub mod CheckInWords
 pub mod LeastAndLargest
 pub mod AvailabilityInWords
+pub mod KnownRanges
 pub mod Ranges
 pub mod Sizes
 pub mod SumsFit
 pub mod FieldBytes
 pub mod FieldLists
 pub mod FileSizes
+pub mod FileContents
 pub mod FileTrips
 pub mod RoundTrips
 pub mod InOrder

@@ -1,7 +1,7 @@
--- What a valid case (1 to 7) and a certificate's prices and amounts past 12 and 13 are known to be, as inequalities of numbers.
+-- From the tests of 3, 5, 6 and 7, of 12 and of 13 to the inequalities that are known past them.
 use mathlib.Core.Path.{_≡_}
 use mathlib.Core.List.{List}
-use Prim.Native.Nat.{ℕ, _<_, _≤_}
+use Prim.Native.Nat.{ℕ, _≤_}
 use native.Mathlib.Omega.{arith}
 use lib.Dec.{T, leb→le}
 use lib.IntN.{ℤ, pos}
@@ -12,116 +12,34 @@ use Rattle.arith.proofs.Order.{≤ℤ-trans}
 use Rattle.arith.proofs.Lists.{each-imp}
 use Rattle.arith.proofs.AllTests.{and-split, all-each}
 use Rattle.arith.proofs.Magnitudes.{Size, size-between}
-use Rattle.market.specs.declared.Refusal.the-variants.{AboveBound, Counts, FieldRange, StepRule, LimitPair}
+use Rattle.market.specs.declared.Refusal.the-variants.{AboveBound}
 use Rattle.market.specs.Bytes.{withinℤ}
-use Rattle.market.specs.Case.{Case, Resource, Curve, Reserve, widthOf, energySteps, curveSteps}
+use Rattle.market.specs.Case.{Case, Resource, Reserve, widthOf, energySteps}
 use Rattle.market.specs.CaseFile.{caseOf}
-use Rattle.market.specs.CaseCheck.{countsRight, fieldsInRange, stepsRule, limitsOrdered}
+use Rattle.market.specs.CaseCheck.{mostResources, mostZones, mostFlowgates, countsRight, fieldsInRange, stepsRule, limitsOrdered}
 use Rattle.market.specs.UpperBounds.{quantities, upperBound}
-use Rattle.market.specs.Rows.{Row, rows, Sense, equal, atLeast, sense, Bounded}
-use Rattle.market.specs.Certificate.{Certificate, Prices, highestPrice, lowestPrice}
+use Rattle.market.specs.Rows.{rows, Sense, equal, atLeast, sense, Bounded}
+use Rattle.market.specs.Certificate.{Certificate, highestPrice, lowestPrice}
 use Rattle.market.specs.Refusals.{clear, firstFailing}
-use Rattle.market.specs.Outcome.{Valid, caseGrounds, priceRight, withinBound}
+use Rattle.market.specs.Outcome.{Valid, priceRight, withinBound}
 use Rattle.market.specs.CheckInWords.{EitherWay, ReserveWithin, ResourceWithin, PairsInOrder}
-use Rattle.market.proofs.Grounds.{unless-clear, none-fails}
-use Rattle.market.proofs.Families.{RowOf, at-row}
+use Rattle.market.proofs.Grounds.{none-fails}
+use Rattle.market.proofs.Families.{at-row}
 use Rattle.market.proofs.LargestCase.{CountRanges}
+pub use Rattle.market.proofs.KnownRanges.{mostPower, mostRamp, mostCents, mostDemand, mostCurveWidth, mostZoneRequirement, mostFlowgateLimit, mostFactor, ReserveRanges, ResourceRanges, CaseRanges, PriceRanges}
+use Rattle.market.proofs.Passed.{case-passed}
 use Rattle.market.proofs.Tests.{either-test}
 use Rattle.market.proofs.CheckInWords.{check-in-words}
-
--- ---- the ends of the ranges
--- of a resource's power and of a width of its steps, in kW
-abbrev pub mostPower : ℕ
-mostPower = 2000000
-
--- kW a minute
-abbrev pub mostRamp : ℕ
-mostRamp = 400000
-
--- of an offer and of a curve step, in cents
-abbrev pub mostCents : ℕ
-mostCents = 400000
-
-abbrev pub mostDemand : ℕ
-mostDemand = 128000000
-
-abbrev pub mostCurveWidth : ℕ
-mostCurveWidth = 8000000
-
-abbrev pub mostZoneRequirement : ℕ
-mostZoneRequirement = 2000000
-
-abbrev pub mostFlowgateLimit : ℕ
-mostFlowgateLimit = 20000000
-
--- thousandths
-abbrev pub mostFactor : ℕ
-mostFactor = 1000
-
--- ---- what is known
-pub record ReserveRanges (c : Case) (p : Reserve) : Type 0 where
-  pub multiplier-from : 1 ≤ c .multiplier p
-  pub multiplier-to : c .multiplier p ≤ 5000
-  pub minutes-from : 1 ≤ c .minutes p
-  pub minutes-to : c .minutes p ≤ 60
-  pub share-to : c .share p ≤ 1000
-  pub requirement-to : c .requirement p ≤ 8000000
-
-pub record ResourceRanges (zones : ℕ) (r : Resource) : Type 0 where
-  pub kind-from : 1 ≤ r .kind
-  pub kind-to : r .kind ≤ 3
-  pub zone-from : 1 ≤ r .zone
-  pub zone-to : r .zone ≤ zones
-  pub breaker-to : r .breaker ≤ 1
-  pub status-to : r .status ≤ 15
-  pub output-size : Size (r .output) mostPower
-  pub economic-min : r .economicMin ≤ mostPower
-  pub economic-max : r .economicMax ≤ mostPower
-  pub regulating-min : r .regulatingMin ≤ mostPower
-  pub regulating-max : r .regulatingMax ≤ mostPower
-  pub emergency-min : r .emergencyMin ≤ mostPower
-  pub emergency-max : r .emergencyMax ≤ mostPower
-  pub initial-to : r .initial ≤ mostPower
-  pub off-line-response : r .offLineResponse ≤ mostPower
-  pub off-line-short-term : r .offLineShortTerm ≤ mostPower
-  pub self-schedule : r .selfSchedule ≤ mostPower
-  pub ramp-up : r .rampUp ≤ mostRamp
-  pub ramp-down : r .rampDown ≤ mostRamp
-  pub ramp-rate : r .rampRate ≤ mostRamp
-  pub regulating-price : r .regulatingPrice ≤ mostCents
-  pub contingency-price : r .contingencyPrice ≤ mostCents
-  pub off-line-short-term-price : r .offLineShortTermPrice ≤ mostCents
-  pub step-width : (j : ℕ) → j < energySteps → r .stepWidth j ≤ mostPower
-  pub step-price : (j : ℕ) → j < energySteps → Size (r .stepPrice j) mostCents
-  -- 6: the widths together
-  pub widths-to : widthOf (r .stepWidth) energySteps ≤ mostPower
-  -- 7
-  pub economic-ordered : r .economicMin ≤ r .economicMax
-  pub regulating-ordered : r .regulatingMin ≤ r .regulatingMax
-  pub emergency-ordered : r .emergencyMin ≤ r .emergencyMax
-
-pub record CaseRanges (c : Case) : Type 0 where
-  pub counts : CountRanges c
-  pub resources-from : 1 ≤ c .resources
-  pub zones-from : 1 ≤ c .zones
-  pub demand-to : c .demand ≤ mostDemand
-  pub reserve : (p : Reserve) → ReserveRanges c p
-  pub curve-width : (k : Curve) (j : ℕ) → j < curveSteps → c .curveWidth k j ≤ mostCurveWidth
-  pub curve-price : (k : Curve) (j : ℕ) → j < curveSteps → c .curvePrice k j ≤ mostCents
-  pub zone-requirement : (z : ℕ) (k : Curve) → z < c .zones → c .zoneRequirement z k ≤ mostZoneRequirement
-  pub resource : (i : ℕ) → i < c .resources → ResourceRanges (c .zones) (c .resource i)
-  pub flowgate-limit : (f : ℕ) → f < c .flowgates → Size (c .flowgateLimit f) mostFlowgateLimit
-  pub shift-factor : (f i : ℕ) → f < c .flowgates → i < c .resources → Size (c .shiftFactor f i) mostFactor
-
-pub record PriceRanges (c : Case) (y : Prices) : Type 0 where
-  pub price : (r : Row) → RowOf c r → Size (y r) (highestPrice r)
 
 -- ---- from the words of 01
 size-of : (n : ℕ) (v : ℤ) → EitherWay n v → Size v n
 size-of n v h = size-between n v (h .0) (h .1)
 
+pub counts-most : (r z f : ℕ) → T (countsRight r z f) → (r ≤ mostResources) × (z ≤ mostZones) × (f ≤ mostFlowgates)
+counts-most r z f h = let n = check-in-words .counts r z f .0 h in (n .0 .1, n .1 .1, n .2)
+
 pub count-ranges : (c : Case) → T (countsRight (c .resources) (c .zones) (c .flowgates)) → CountRanges c
-count-ranges c h = let n = check-in-words .counts (c .resources) (c .zones) (c .flowgates) .0 h in record { most-resources = n .0 .1; most-zones = n .1 .1; most-flowgates = n .2 }
+count-ranges c h = let n = counts-most (c .resources) (c .zones) (c .flowgates) h in record { most-resources = n .0; most-zones = n .1; most-flowgates = n .2 }
 
 reserve-ranges : (c : Case) (p : Reserve) → ReserveWithin c p → ReserveRanges c p
 reserve-ranges c p h =
@@ -194,14 +112,9 @@ case-ranges c counts fields steps pairs =
 
 -- ---- of the bytes of a valid case
 pub valid-ranges : (b : List ℕ) → Valid b → CaseRanges (caseOf b)
-unfolding caseGrounds
 valid-ranges b v =
-    let c = caseOf b in
-    case-ranges c
-    (unless-clear (countsRight (c .resources) (c .zones) (c .flowgates)) Counts (v .1 .1 .0))
-    (unless-clear (fieldsInRange c) FieldRange (v .1 .1 .1 .1 .0))
-    (unless-clear (stepsRule c) StepRule (v .1 .1 .1 .1 .1 .0))
-    (unless-clear (limitsOrdered c) LimitPair (v .1 .1 .1 .1 .1 .1 .0))
+    let p = case-passed b v in
+    case-ranges (caseOf b) (p .counts-right) (p .fields-in-range) (p .steps-rule) (p .limits-ordered)
 
 -- ---- of a certificate, past 12
 price-size : (s : Sense) (most : ℕ) (v : ℤ) → T (withinℤ (lowestPrice s most) (pos most) v) → Size v most

@@ -2,10 +2,9 @@
 use mathlib.Core.Path.{_≡_, refl, sym, _∙_, ap}
 use mathlib.Core.List.{List, [], _∷_}
 use Prim.Native.Nat.{ℕ}
-use native.Mathlib.Omega.{arith}
 use lib.Dec.{leb}
 use lib.ListN.{length}
-use Rattle.arith.specs.Sums.{Each}
+use Rattle.arith.specs.Sums.{all}
 use Rattle.market.specs.declared.Refusal.the-variants.{BufferShort}
 use Rattle.market.specs.declared.CaseAnswer.{CaseAnswer}
 use Rattle.market.specs.declared.CaseAnswer.the-variants as C
@@ -21,11 +20,12 @@ use Rattle.market.specs.Certificate.{certificateOf}
 use Rattle.market.specs.Charges.{chargeCount}
 use Rattle.market.specs.Prices.{priceCount}
 use Rattle.market.specs.Refusals.{Finding, clear, holds, firstOf, caseAnswerOf, outcomeOf, deliveryOf, transferOf}
-use Rattle.market.specs.Outcome.{caseGrounds, caseAnswer, certificateGrounds, grounds, valuation, outcome, room, priceGrounds, priceAnswer, chargeGrounds, chargeAnswer}
+use Rattle.market.specs.Outcome.{caseGrounds, caseAnswer, certificateGrounds, grounds, valuation, outcome, priceGrounds, priceAnswer, chargeGrounds, chargeAnswer}
 use Rattle.market.specs.Numbers.{caseNumbers, certificateNumbers, caseFile, certificateFile, readCaseGrounds, readCase, readCertificateGrounds, readCertificate, writeCaseGrounds, writeCase, writeCertificateGrounds, writeCertificate}
 use Rattle.market.specs.RefusedExactly.{Exactly, PlacesExactly, RefusedExactly}
 use Rattle.market.proofs.Grounds.{none-holds, all-clear, first-holds, holds-first}
-use Rattle.market.proofs.RefusedPlaces.{Beyond, beyond-unless, places}
+use Rattle.market.proofs.Passed.{Test, test}
+use Rattle.market.proofs.RefusedPlaces.{otherNumber, places}
 use Rattle.market.proofs.PrintedRefusal.{program-exactly, program-placed}
 
 -- an answer from which the finding can be told
@@ -82,17 +82,17 @@ deliveries = exactly deliveryOf in-delivery of-delivery
 transfers : (n : ℕ) (gs : List Finding) → Exactly gs (transferOf n (firstOf gs)) W.Refused (W.Written n)
 transfers n = exactly (transferOf n) in-transfer (of-transfer n)
 
--- 15 comes after 14
-no-room : (needed n : ℕ) → Each (Beyond 14) (room needed n ∷ [])
-no-room needed n = (beyond-unless 14 (leb needed n) BufferShort (omega arith), tt)
+-- 15, of a lent buffer of n numbers
+abbrev roomTests : ℕ → ℕ → List Test
+roomTests needed n = test (leb needed n) BufferShort ∷ []
 
 certificate-exactly : (b q : List ℕ) → Exactly (grounds b q) (outcome b q) O.Refused (O.Accepted (valuation (caseOf b) (certificateOf q)))
 unfolding outcome
 certificate-exactly b q = let v = valuation (caseOf b) (certificateOf q) in exactly (outcomeOf v) in-outcome (of-outcome v) (grounds b q)
 
 certificate-placed : (b q : List ℕ) → PlacesExactly b q (outcome b q) O.Refused
-unfolding caseGrounds certificateGrounds
-certificate-placed b q = places b q [] tt (certificate-exactly b q .refused-exactly)
+unfolding all caseGrounds certificateGrounds
+certificate-placed b q = places b q [] tt tt (certificate-exactly b q .refused-exactly)
 
 price-exactly : (b q : List ℕ) (n : ℕ) → Exactly (priceGrounds b q n) (priceAnswer b q n) D.Refused D.Delivered
 unfolding priceAnswer
@@ -103,7 +103,7 @@ unfolding chargeAnswer
 charge-exactly b q n = deliveries (chargeGrounds b q n)
 
 pub refused-exactly : RefusedExactly
-unfolding caseAnswer readCase readCertificate writeCase writeCertificate priceGrounds chargeGrounds
+unfolding all otherNumber caseAnswer readCase readCertificate writeCase writeCertificate priceGrounds chargeGrounds
 refused-exactly =
     record {
       case-check = λ b. exactly caseAnswerOf in-case-answer of-case-answer (caseGrounds b);
@@ -116,7 +116,7 @@ refused-exactly =
       certificate-writing = λ vs n. transfers (length (certificateFile vs)) (writeCertificateGrounds vs n);
       program = program-exactly;
       certificate-places = certificate-placed;
-      price-places = λ b q n. places b q (room (priceCount (caseOf b)) n ∷ []) (no-room (priceCount (caseOf b)) n) (price-exactly b q n .refused-exactly);
-      charge-places = λ b q n. places b q (room (chargeCount (caseOf b)) n ∷ []) (no-room (chargeCount (caseOf b)) n) (charge-exactly b q n .refused-exactly);
+      price-places = λ b q n. places b q (roomTests (priceCount (caseOf b)) n) tt tt (price-exactly b q n .refused-exactly);
+      charge-places = λ b q n. places b q (roomTests (chargeCount (caseOf b)) n) tt tt (charge-exactly b q n .refused-exactly);
       program-places = program-placed;
     }

@@ -1,7 +1,7 @@
 -- Numbers that were written are read back as themselves, and a valid file's numbers are written as that file's bytes.
 use mathlib.Core.Path.{_≡_, refl}
 use mathlib.Core.List.{List, [], _∷_, _++_}
-use Prim.Native.Nat.{ℕ, _+_, _≤_}
+use Prim.Native.Nat.{ℕ, _≤_}
 use native.Mathlib.Nat.{mul-le-mul}
 use native.Mathlib.Omega.{arith}
 use lib.Dec.{leb, le→leb}
@@ -9,10 +9,10 @@ use lib.IntN.{ℤ}
 use lib.ListN.{length, take, drop}
 use lib.Seq.{take-append-seam}
 use Rattle.arith.proofs.Lists.{each-join, each-split}
-use Rattle.market.specs.declared.Refusal.the-variants.{CaseLength, CaseVersion, CaseSize, FieldRange, StepRule, LimitPair, CertificateLength, CertificateVersion, CertificateSize, BufferShort}
+use Rattle.market.specs.declared.Refusal.the-variants.{CaseLength, CaseVersion, CaseSize, CertificateLength, CertificateVersion, CertificateSize, BufferShort}
 use Rattle.market.specs.declared.Transfer.the-variants.{Written}
 use Rattle.market.specs.CaseFile.{leastCaseSize, caseOf, caseSize}
-use Rattle.market.specs.CaseCheck.{caseSizeRight, fieldsInRange, stepsRule, limitsOrdered}
+use Rattle.market.specs.CaseCheck.{caseSizeRight}
 use Rattle.market.specs.Certificate.{leastCertificateSize, certificateSize}
 use Rattle.market.specs.Refusals.{Finding, clear, holds, unless, firstOf, transferOf, bufferAfter, AllClear}
 use Rattle.market.specs.Outcome.{caseGrounds, room}
@@ -20,7 +20,8 @@ use Rattle.market.specs.Numbers.{caseFields, certificateFields, numbersO
 use Rattle.market.specs.RoundTrips.{RoundTrip, RoundTrips}
 use Rattle.market.proofs.Grounds.{none-holds, all-clear, clear-unless}
 use Rattle.market.proofs.FileSizes.{case-count, certificate-count, case-fills, certificate-fills}
-use Rattle.market.proofs.FileTrips.{CountsFirst, FileKind, fileGrounds, numberGrounds, written-first, written-valid, valid-written}
+use Rattle.market.proofs.FileContents.{CountsFirst}
+use Rattle.market.proofs.FileTrips.{FileKind, Right, fileGrounds, numberGrounds, clear-right, written-first, written-valid, valid-written}
 
 -- an answer of success, for a list of m elements
 written-clear : (m n : ℕ) (g : Finding) → transferOf m g ≡ Written n → (g ≡ clear) × (m ≡ n)
@@ -78,7 +79,7 @@ case-counts-first : (r z f : ℕ) → CountsFirst (caseFields r z f)
 unfolding caseFields
 case-counts-first r z f = refl
 
-certificate-counts-first : (r z f : ℕ) → CountsFirst (certificateFields r z f)
+pub certificate-counts-first : (r z f : ℕ) → CountsFirst (certificateFields r z f)
 unfolding certificateFields
 certificate-counts-first r z f = refl
 
@@ -98,7 +99,7 @@ cases =
       at-most = λ r z f a b c. omega (arith, mul-le-mul c a);
     }
 
-abbrev certificates : FileKind
+abbrev pub certificates : FileKind
 certificates =
     record {
       fields = certificateFields;
@@ -126,6 +127,11 @@ case-filed vs h = written-first cases vs h
 certificate-trip : RoundTrip certificateFileGrounds certificateNumbers readCertificate readCertificateBuffer writeCertificate writeCertificateBuffer
 unfolding certificateFileGrounds fileGrounds numberGrounds listGrounds readCertificateGrounds readCertificate readCertificateBuffer writeCertificateGrounds writeCertificate writeCertificateBuffer
 certificate-trip = round-trip certificates
+
+-- a certificate's file that is refused on none of 8, 9, 3, 11
+pub certificate-right : (q : List ℕ) → AllClear (certificateFileGrounds q) → Right certificates q
+unfolding certificateFileGrounds fileGrounds
+certificate-right q h = clear-right certificates q h
 
 pub round-trips : RoundTrips
 round-trips =
