@@ -1,34 +1,18 @@
 // The entries of a certificate, read by value: amounts and row prices. Each reader asks for a file of the right size.
 ghost use mathlib.Core.Path.{_≡_};
-ghost use Prim.Native.Nat.{ℕ, _<_};
-ghost use lib.IntN.{pos};
-ghost use Rattle.market.specs.Bytes.{u32At, i32At};
-ghost use Rattle.market.specs.Rows.{Balance, Market, Zone, Flowgate};
-ghost use Rattle.market.specs.Certificate.{certificateOf, amountsPlace};
-ghost use Rattle.market.specs.Records.{power, price, cents, millicents, amountsOf, limitPricesOf, clearedOf, reservePricesOf};
+ghost use Prim.Native.Nat.{_<_};
+ghost use Rattle.market.specs.Case.{Curve};
+ghost use Rattle.market.specs.Rows.{Row, Balance, Market, Zone, Flowgate};
+ghost use Rattle.market.specs.Certificate.{certificateOf};
+ghost use Rattle.market.specs.Records.{cents, millicents, amountsOf, limitPricesOf, clearedOf, reservePricesOf};
 ghost use Rattle.wire.specs.Within.{Within};
-ghost use Rattle.entries.specs.CertificateBytes.{CertificateBytes, reservePricesAt};
+ghost use Rattle.entries.specs.CertificateBytes.{CertificateBytes, PricesFrom};
 use market::Amounts;
 use market::Cents;
 use market::CurveAmounts;
-use market::Kw;
 use market::LimitPrices;
 use market::Millicents;
 use market::ReservePrices;
-
-fn kw_at(q: &[u8], at: usize) -> Kw
-    requires { ⌜ Within (now q) at 4 ⌝ }
-    ensures { λ r. ⌜ r ≡ power (u32At (now (q .entry)) at) ⌝ }
-{
-    Kw(wire::u32_at(q, at) as i64)
-}
-
-fn millicents_at(q: &[u8], at: usize) -> Millicents
-    requires { ⌜ Within (now q) at 4 ⌝ }
-    ensures { λ r. ⌜ r ≡ millicents (pos (u32At (now (q .entry)) at)) ⌝ }
-{
-    Millicents(wire::u32_at(q, at) as i64)
-}
 
 // What resource i is given.
 pub fn amounts_at(q: &[u8], r: usize, z: usize, f: usize, i: usize) -> Amounts
@@ -37,11 +21,11 @@ pub fn amounts_at(q: &[u8], r: usize, z: usize, f: usize, i: usize) -> Amounts
 {
     let at = 44 + z * 16 + f * 4 + i * 40;
     Amounts {
-        energy: kw_at(q, at),
-        regulation: kw_at(q, at + 4),
-        contingency: kw_at(q, at + 8),
-        on_line_short_term: kw_at(q, at + 12),
-        off_line_short_term: kw_at(q, at + 16),
+        energy: wire::kw_at(q, at),
+        regulation: wire::kw_at(q, at + 4),
+        contingency: wire::kw_at(q, at + 8),
+        on_line_short_term: wire::kw_at(q, at + 12),
+        off_line_short_term: wire::kw_at(q, at + 16),
     }
 }
 
@@ -52,11 +36,11 @@ pub fn limit_prices_at(q: &[u8], r: usize, z: usize, f: usize, i: usize) -> Limi
 {
     let at = 44 + z * 16 + f * 4 + i * 40;
     LimitPrices {
-        max_with_reserve: millicents_at(q, at + 20),
-        max_with_short_term: millicents_at(q, at + 24),
-        minimum: millicents_at(q, at + 28),
-        high: millicents_at(q, at + 32),
-        low: millicents_at(q, at + 36),
+        max_with_reserve: wire::millicents_at(q, at + 20),
+        max_with_short_term: wire::millicents_at(q, at + 24),
+        minimum: wire::millicents_at(q, at + 28),
+        high: wire::millicents_at(q, at + 32),
+        low: wire::millicents_at(q, at + 36),
     }
 }
 
@@ -66,22 +50,23 @@ pub fn cleared(q: &[u8], r: usize, z: usize, f: usize) -> CurveAmounts
     ensures { λ a. ⌜ a ≡ clearedOf (certificateOf (now (q .entry)) .amount) ⌝ }
 {
     CurveAmounts {
-        operating: kw_at(q, 8),
-        regulating_plus_spinning: kw_at(q, 12),
-        regulating: kw_at(q, 16),
-        short_term: kw_at(q, 20),
+        operating: wire::kw_at(q, 8),
+        regulating_plus_spinning: wire::kw_at(q, 12),
+        regulating: wire::kw_at(q, 16),
+        short_term: wire::kw_at(q, 20),
     }
 }
 
+// The prices of four rows, one for each curve, one behind the other.
 fn reserve_prices_at(q: &[u8], at: usize) -> ReservePrices
     requires { ⌜ Within (now q) at 16 ⌝ }
-    ensures { λ p. ⌜ p ≡ reservePricesAt (now (q .entry)) at ⌝ }
+    ensures { λ p. ⌜ ((row : Curve → Row) → PricesFrom (now (q .entry)) row at → p ≡ reservePricesOf (certificateOf (now (q .entry)) .price) row) ⌝ }
 {
     ReservePrices {
-        operating: millicents_at(q, at),
-        regulating_plus_spinning: millicents_at(q, at + 4),
-        regulating: millicents_at(q, at + 8),
-        short_term: millicents_at(q, at + 12),
+        operating: wire::millicents_at(q, at),
+        regulating_plus_spinning: wire::millicents_at(q, at + 4),
+        regulating: wire::millicents_at(q, at + 8),
+        short_term: wire::millicents_at(q, at + 12),
     }
 }
 
@@ -106,7 +91,7 @@ pub fn balance_price(q: &[u8], r: usize, z: usize, f: usize) -> Millicents
     requires { ⌜ CertificateBytes (now q) r z f ⌝ }
     ensures { λ p. ⌜ p ≡ millicents (certificateOf (now (q .entry)) .price Balance) ⌝ }
 {
-    Millicents(wire::i32_at(q, 24))
+    wire::signed_millicents_at(q, 24)
 }
 
 // The price of a flowgate's row, in cents, flowgates counted from 0.
@@ -114,5 +99,5 @@ pub fn flowgate_price_at(q: &[u8], r: usize, z: usize, f: usize, flowgate: usize
     requires { ⌜ CertificateBytes (now q) r z f × (flowgate < f) ⌝ }
     ensures { λ p. ⌜ p ≡ cents (certificateOf (now (q .entry)) .price (Flowgate flowgate)) ⌝ }
 {
-    Cents(wire::u32_at(q, 44 + z * 16 + flowgate * 4) as i64)
+    wire::cents_at(q, 44 + z * 16 + flowgate * 4)
 }

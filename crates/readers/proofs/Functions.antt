@@ -1,6 +1,6 @@
 -- What each function over a `CaseReader` asks of the bytes and finds in them, x being the counts and numbers that its callee is passed.
 use Rattle.market.specs.Case.{curveNumbered}
-use Rattle.market.specs.CaseFile.{caseOf, resourceAt, resourcePlace}
+use Rattle.market.specs.CaseFile.{caseOf}
 use Rattle.market.specs.Records.{kw, shiftFactor as factor, power, recordOf, offerStepsOf, termsOf, curveStepsOf, zoneRequirementsOf}
 use Rattle.records.specs.Places.{HeadIn, CurveIn, ZoneIn, ResourceIn, FlowgateIn, FactorIn}
 use Rattle.market.proofs.CurveSteps as CurveSteps
@@ -17,7 +17,7 @@ use Rattle.market.proofs.Terms as Terms
 use Rattle.market.proofs.Terms.Laws as TermsLaws
 use Rattle.market.proofs.ZoneRequirements as ZoneRequirements
 use Rattle.market.proofs.ZoneRequirements.Laws as ZoneRequirementsLaws
-use Rattle.readers.proofs.Thin.{Thin, answering}
+use Rattle.readers.proofs.ThinContracts.{Thin, answering}
 use Rattle.readers.proofs.ThinWalks.{unnumbered, numbered, numberedByZones, numberedByCounts, pairedByCounts}
 
 abbrev pub demand : Thin unnumbered
@@ -33,10 +33,10 @@ abbrev pub zone : Thin numbered
 zone = answering ZoneRequirements.the-type ZoneRequirementsLaws.the-laws (λ _ b x. ZoneIn b (x .0)) (λ _ b x. zoneRequirementsOf (caseOf b) (x .0))
 
 abbrev pub resource : Thin numberedByZones
-resource = answering Resource.the-type ResourceLaws.the-laws (λ _ b x. ResourceIn b (x .0) (x .1 .0)) (λ _ b x. recordOf (resourceAt b (resourcePlace (x .0) (x .1 .0))))
+resource = answering Resource.the-type ResourceLaws.the-laws (λ _ b x. ResourceIn b (x .0) (x .1 .0)) (λ _ b x. recordOf (caseOf b .resource (x .1 .0)))
 
 abbrev pub offerSteps : Thin numberedByZones
-offerSteps = answering OfferSteps.the-type OfferStepsLaws.the-laws (λ _ b x. ResourceIn b (x .0) (x .1 .0)) (λ _ b x. offerStepsOf (resourceAt b (resourcePlace (x .0) (x .1 .0))))
+offerSteps = answering OfferSteps.the-type OfferStepsLaws.the-laws (λ _ b x. ResourceIn b (x .0) (x .1 .0)) (λ _ b x. offerStepsOf (caseOf b .resource (x .1 .0)))
 
 abbrev pub flowgateLimit : Thin numberedByCounts
 flowgateLimit = answering Kw.the-type KwLaws.the-laws (λ _ b x. FlowgateIn b (x .0) (x .1 .0) (x .1 .1 .0)) (λ _ b x. kw (caseOf b .flowgateLimit (x .1 .1 .0)))

@@ -1,67 +1,15 @@
--- Functions on plain parameters that make a `CaseReader` by `new`, hold it in a local and pass it to a function of Thin.antt, with n numbers beside it.
--- What their walks by hand share. The walks themselves are in PlainWalks.antt.
+-- What the walks by hand of the functions of PlainContracts.antt share: what goes to the two calls, what is had at exit, from a walk to the contract.
+-- The walks themselves are in PlainWalks.antt.
 -- All that is known of the two is that each meets its contract. Assumes nothing.
-use Rattle.readers.proofs.Walk.{_≡_, ℕ, List, [], _∷_, length, URA, named, erased, w8, Val, SProp, ent, sep, snd∗, exE, Lft, Share, Fml, ftrue, flft, Memory, Routine, Heap, Calls, Loops, WpFn, Tables, Atoms, sem, Lfts, Fun, fact, givenOf, tables, Given, ‵, raw, _⊛_, ⋆, _$_, _∵_, !, qed, move, drop, use1, use2, split, join, fsplit, fjoin, suffices, frame, done, fmOf, FmC, WpFn-mono, owns, Is, u8, RefT, now, plain, sliceVal, ShrSlice, slice-vals, shr-slice-tells, shr-slice-copy, Contract, Triple, onEntry, Meets, tripleOf, entered, cited, says, needs, Stays, stay-none-slice, walkOf, goes-none-slice, ends-at, walked, walk-meets, yes, ensured, lasts, tablesOf, Running, GhostRules, _++_, suc, _+_, Name, Ty, tyInt, tyRef, imm, Fn, local, valueLocal, seq, call, return, place, Model, Env, Closed, use0, flat, sliceTy, shrSliceOf, Ended, Clauses, closing, hasOf}
+use Rattle.readers.proofs.Walk.{_≡_, ℕ, List, [], _∷_, length, URA, named, Val, SProp, ent, sep, snd∗, exE, Lft, Share, Fml, ftrue, flft, Memory, Routine, Heap, Calls, Loops, WpFn, Tables, Atoms, sem, Fun, fact, givenOf, tables, Given, ‵, raw, _⊛_, ⋆, _$_, _∵_, !, qed, move, drop, use1, use2, split, join, fsplit, fjoin, suffices, frame, done, fmOf, FmC, WpFn-mono, owns, Is, u8, RefT, now, plain, sliceVal, ShrSlice, slice-vals, shr-slice-tells, shr-slice-copy, Triple, onEntry, Meets, tripleOf, entered, cited, says, needs, walkOf, goes-none-slice, ends-at, walked, walk-meets, yes, ensured, lasts, tablesOf, Running, GhostRules, Name, call, Model, Env, Closed, use0, flat, closing, hasOf}
 use Rattle.readers.proofs.Numbers.{ints, kepts, stays, Ints, Numbers, spells, tells, words, Fit, ends, ends-fit, go, own-numbers, has-numbers}
-use Rattle.readers.proofs.Thin.{B, Shape, Thin, places, copies, words-of}
-use Rattle.readers.proofs.Thin as thin
+use Rattle.readers.proofs.ThinContracts.{B, Shape, Thin}
+use Rattle.readers.proofs.ThinContracts as thin
 use Rattle.readers.specs.declared.CaseReader.{CaseReader}
-use Rattle.readers.proofs.CaseReader.Laws as T′
 use Rattle.readers.proofs.new as new
 use Rattle.readers.proofs.new.Symbol as new-def
 use Rattle.readers.proofs.new.Met as new-thm
-
--- the three counts, and n numbers
-abbrev pub all : ℕ → ℕ
-all n = suc (suc (suc n))
-
--- ---- the code
-abbrev pub codeOf : ℕ → Ty → Name → Fn
-codeOf n ρ name = record {
-  lifetimes = 1;
-  outlives = [];
-  params = 4 + n;
-  locals = local ρ valueLocal ∷ local (sliceTy (tyRef (named 0) imm (tyInt w8))) valueLocal ∷ words-of (all n) ++ local (T′.mir erased) valueLocal ∷ [];
-  body = seq (call new-def.name (copies (places 1 4)) (place (5 + n) [])) (seq (call name (copies ((5 + n) ∷ places 5 n)) (place 0 [])) return);
-}
-
--- ---- the contracts
-module _ {n : ℕ} {s : Shape n} (t : Thin s) where
-  abbrev pub this : Ended
-  this = record {
-    signature = record { lifetimes = 1; outlives = []; params = shrSliceOf (0 ∷ []) tt (plain (λ _. u8)) ∷ ints (all n); result = plain (λ _. t .row) };
-    kept = (yes, kepts (all n));
-  }
-
-  abbrev pub stayed : Stays (this .signature .params) (this .kept)
-  stayed = (stay-none-slice (0 ∷ []) tt (plain (λ _. u8)) yes, stays (all n))
-
-  module _ (κs : Lfts 1) (b : RefT (List ℕ)) (y : Numbers κs (all n)) where
-    abbrev pub made : CaseReader
-    made = record { bytes = b; resources = y .0; zones = y .1 .0; flowgates = y .1 .1 .0 }
-
-  -- what the function of Thin.antt asks and finds, of a reader
-  module _ (κs : Lfts 1) (x : Numbers κs n) where
-    abbrev pub Asked : CaseReader → Type 0
-    Asked d = t .asks κs (now (d .bytes)) (s .pass κs d x)
-
-    abbrev pub Found : CaseReader → t .row .Denot
-    Found d = t .finds κs (now (d .bytes)) (s .pass κs d x)
-
-  module _ {M : Type 1} (𝓤 : URA M) where
-    abbrev pub clauses : Clauses 𝓤 this
-    clauses κs a = record {
-      ghost = Unit {0};
-      requires = λ _. fact 𝓤 (Asked κs (a .1 .1 .1 .1) (made κs (a .0) (a .1)));
-      ensures = λ _ r _. fact 𝓤 (r ≡ Found κs (a .1 .1 .1 .1) (made κs (a .0) (a .1)));
-    }
-
-    abbrev pub Reads : (H : Heap 𝓤) → Atoms 𝓤 → Contract 𝓤
-    Reads H A = tripleOf 𝓤 H A (thin.this t .signature) (closing 𝓤 H A (thin.this t) (thin.clauses t 𝓤))
-
-module _ {M : Type 1} (𝓤 : URA M) (H : Heap 𝓤) (A : Atoms 𝓤) (mem : Memory → SProp 𝓤) (run : Routine → Fun 𝓤) where
-  abbrev pub New : Contract 𝓤
-  New = tripleOf 𝓤 H A new.signature (new.spec 𝓤 H A mem run)
+use Rattle.readers.proofs.PlainContracts.{all, codeOf, this, stayed, made, Asked, Found, clauses, Reads, New}
 
 -- ---- a walk's ends
 module _ {n : ℕ} {s : Shape n} (t : Thin s) {M : Type 1} (𝓤 : URA M) (H : Heap 𝓤) (A : Atoms 𝓤) (mem : Memory → SProp 𝓤) (run : Routine → Fun 𝓤) (κ : Lft) (q : Share) (b : RefT (List ℕ)) (y : Numbers (κ, tt) (all n)) where
@@ -93,7 +41,7 @@ module _ {n : ℕ} {s : Shape n} (t : Thin s) {M : Type 1} (𝓤 : URA M) (H : H
   pub new-said : (d : CaseReader) → ent 𝓤 (New-ensured d) (fact 𝓤 (d ≡ reader))
   new-said d = exE 𝓤 _ (λ ws. snd∗ 𝓤 (sem 𝓤 H A (lasts new.ended (κ, tt) (b, counts) ws)) (fact 𝓤 (d ≡ reader)))
 
-  -- the call of the function of Thin.antt, at the reader d with the machine value u
+  -- the call of the function of ThinContracts.antt, at the reader d with the machine value u
   abbrev pub to : CaseReader → Val → Reads t 𝓤 H A .Ghost
   to d u = (((κ, tt), (q, tt), tt, (d, y .1 .1 .1), (u ∷ [], words (κ, tt) n (y .1 .1 .1))), tt)
 

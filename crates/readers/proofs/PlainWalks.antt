@@ -1,11 +1,13 @@
--- The walks by hand of the functions of Plain.antt, one for each number of numbers beside the counts.
+-- The walks by hand of the functions of PlainContracts.antt, one for each number of numbers beside the counts.
 -- In a local of a body MIR erases the lifetime of the struct's type, so the value is shown to have the type at `erased`. Assumes nothing.
 use denote.Struct.Laws as LL
 use Rattle.readers.proofs.Walk.{refl, sym, ap, subst, _∙_, [], _∷_, URA, named, erased, w64, vint, SProp, Memory, Routine, Heap, Atoms, Fun, Given, ‵, raw, _⊛_, _$_, _∵_, !, qed, by, move, use1, use2, split, look, init, forget, stop, from, load, and-then, no-more, land, returns, enter, alloc1, alloc0, params1, pass1, pass0, free1, free0, u8, shr-slice-lawful, calls-at}
 use Rattle.readers.proofs.CaseReader as T
 use Rattle.readers.proofs.CaseReader.Laws as T′
-use Rattle.readers.proofs.Thin.{B, Shape, Thin, answered}
-use Rattle.readers.proofs.Plain.{codeOf, Asked, Found, New, Reads, v, entry, Own, reader, to-new, New-ensured, new-said, to, Ensured, said, goes-new, goes, exits, Walk}
+use Rattle.readers.proofs.ThinContracts.{B, Shape, Thin}
+use Rattle.readers.proofs.Thin.{answered}
+use Rattle.readers.proofs.PlainContracts.{codeOf, Asked, Found, New, Reads}
+use Rattle.readers.proofs.Plain.{v, entry, Own, reader, to-new, New-ensured, new-said, to, Ensured, said, goes-new, goes, exits, Walk}
 
 module _ {M : Type 1} (𝓤 : URA M) (H : Heap 𝓤) (A : Atoms 𝓤) (W : Given 𝓤 H A) (mem : Memory → SProp 𝓤) (run : Routine → Fun 𝓤) where
   pub walk-no-number : {s : Shape 0} (t : Thin s) → Walk t 𝓤 H A W mem run

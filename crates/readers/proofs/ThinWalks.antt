@@ -1,7 +1,8 @@
--- The walks by hand of the functions of Thin.antt, one for each choice of numbers beside the reader and of counts that are passed on.
+-- The walks by hand of the functions of ThinContracts.antt, one for each choice of numbers beside the reader and of counts that are passed on.
 -- Assumes nothing.
 use Rattle.readers.proofs.Walk.{refl, [], _∷_, URA, w64, vint, Heap, Atoms, Given, ‵, raw, _⊛_, _$_, _∵_, !, qed, by, move, use1, split, whole, sub, look-in, look, init, forget, stop, fld, from, load, of-opd, and-then, no-more, assigns, land, returns, enter, alloc1, alloc0, params1, pass1, pass0, free1, free0, calls-at}
-use Rattle.readers.proofs.Thin.{Shape, Thin, codeOf, Callee, mach, entry, Own, found, to, Ensured, said, apart, exits, answered, Walk}
+use Rattle.readers.proofs.ThinContracts.{Shape, Thin, codeOf, Callee}
+use Rattle.readers.proofs.Thin.{mach, entry, Own, found, to, Ensured, said, apart, exits, answered, Walk}
 
 -- no number, and none of the counts
 abbrev pub unnumbered : Shape 0

@@ -3,7 +3,7 @@
 // parameters, which makes the reader and calls it. Each asks that the bytes it reads are there (`records`, specs/Places.antt).
 ghost use mathlib.Core.Path.{_≡_};
 ghost use Rattle.market.specs.Case.{curveNumbered};
-ghost use Rattle.market.specs.CaseFile.{resourceAt, resourcePlace, caseOf};
+ghost use Rattle.market.specs.CaseFile.{caseOf};
 ghost use Rattle.market.specs.Records.{kw, shiftFactor, power, recordOf, offerStepsOf, termsOf, curveStepsOf, zoneRequirementsOf};
 ghost use Rattle.records.specs.Places.{HeadIn, CurveIn, ZoneIn, ResourceIn, FlowgateIn, FactorIn};
 ghost use Rattle.readers.specs.Reader.{readerOf};
@@ -104,14 +104,14 @@ pub fn zone_at(
 
 pub fn resource_of<'a>(r: CaseReader<'a>, i: usize) -> Resource
     requires { ⌜ ResourceIn (now (r .bytes)) (r .zones) i ⌝ }
-    ensures { λ q. ⌜ q ≡ recordOf (resourceAt (now (r .entry .bytes)) (resourcePlace (r .entry .zones) i)) ⌝ }
+    ensures { λ q. ⌜ q ≡ recordOf (caseOf (now (r .entry .bytes)) .resource i) ⌝ }
 {
     records::resource_at(r.bytes, r.zones, i)
 }
 
 pub fn resource_at(b: &[u8], resources: usize, zones: usize, flowgates: usize, i: usize) -> Resource
     requires { ⌜ ResourceIn (now b) zones i ⌝ }
-    ensures { λ r. ⌜ r ≡ recordOf (resourceAt (now (b .entry)) (resourcePlace zones i)) ⌝ }
+    ensures { λ r. ⌜ r ≡ recordOf (caseOf (now (b .entry)) .resource i) ⌝ }
 {
     resource_of(new(b, resources, zones, flowgates), i)
 }
@@ -119,7 +119,7 @@ pub fn resource_at(b: &[u8], resources: usize, zones: usize, flowgates: usize, i
 // The energy steps of resource i.
 pub fn offer_steps_of<'a>(r: CaseReader<'a>, i: usize) -> OfferSteps
     requires { ⌜ ResourceIn (now (r .bytes)) (r .zones) i ⌝ }
-    ensures { λ q. ⌜ q ≡ offerStepsOf (resourceAt (now (r .entry .bytes)) (resourcePlace (r .entry .zones) i)) ⌝ }
+    ensures { λ q. ⌜ q ≡ offerStepsOf (caseOf (now (r .entry .bytes)) .resource i) ⌝ }
 {
     records::offer_steps(r.bytes, r.zones, i)
 }
@@ -132,7 +132,7 @@ pub fn offer_steps_at(
     i: usize,
 ) -> OfferSteps
     requires { ⌜ ResourceIn (now b) zones i ⌝ }
-    ensures { λ r. ⌜ r ≡ offerStepsOf (resourceAt (now (b .entry)) (resourcePlace zones i)) ⌝ }
+    ensures { λ r. ⌜ r ≡ offerStepsOf (caseOf (now (b .entry)) .resource i) ⌝ }
 {
     offer_steps_of(new(b, resources, zones, flowgates), i)
 }

@@ -1,17 +1,15 @@
 -- The records of a case whose figures are in range are in range themselves.
-use mathlib.Core.Path.{_≡_, refl, subst}
+use mathlib.Core.Path.{_≡_, refl}
 use mathlib.Core.List.{List}
 use Prim.Native.Nat.{ℕ, zero, suc, _<_, _≤_}
 use native.Mathlib.Omega.{arith}
 use lib.ListN.{getD}
 use lib.IntN.{pos}
 use Rattle.market.specs.Case.{Case, Resource, Curve, Reserve, operating, regulatingPlusSpinning, regulating, shortTerm}
-use Rattle.market.specs.CaseFile.{caseOf, resourceAt, resourcePlace}
+use Rattle.market.specs.CaseFile.{caseOf}
 use Rattle.market.specs.Records.{offerStepOf, offerStepsOf, curveStepOf, curveStepsOf, stateOf, outputLimitsOf, rampsOf, startsOf, reserveOffersOf, recordOf, reserveTermsOf, zoneRequirementsOf, power}
 use Rattle.market.specs.Outcome.{Valid}
 use Rattle.market.proofs.Ranges.{CaseRanges, ResourceRanges, ReserveRanges, valid-ranges}
-use Rattle.records.specs.Places.{CaseBytes}
-use Rattle.records.proofs.Places.{resource-is, resources-is}
 use Rattle.records.specs.Ranged.{UpTo, offerStep, curveStep, RangedLimits, RangedRamps, RangedStarts, RangedOffers, RangedSteps, Ranged, RangedTerms, RangedCurve, RangedZone}
 
 up-to : {n most : ℕ} → n ≤ most → UpTo (pos n) most
@@ -143,7 +141,3 @@ module _ (b : List ℕ) (v : Valid b) where
 
   pub valid-zone : (z : ℕ) → z < caseOf b .zones → RangedZone (zoneRequirementsOf (caseOf b) z)
   valid-zone z l = zone-ranged (valid-ranges b v) z l
-
-  -- what is read at resource i's place, in a case of r resources and z zones
-  pub read-ranged : {r z f : ℕ} → CaseBytes b r z f → (i : ℕ) → i < r → Ranged (recordOf (resourceAt b (resourcePlace z i)))
-  read-ranged whole i l = rw (resource-is whole i) (valid-resource i (subst (λ (n : ℕ). i < n) (resources-is whole) l))

@@ -1,18 +1,16 @@
 // Records out of a case's bytes, by value: resources, zones' requirements, reserve terms, demand curves, demand, flowgates.
 // Each function asks that the bytes it reads are there (specs/Places.antt), and equates its result with the definitions.
 ghost use mathlib.Core.Path.{_≡_};
-ghost use Prim.Native.Nat.{_+_, _*_, _<_, _≤_};
+ghost use Prim.Native.Nat.{_<_, _≤_};
 ghost use Rattle.wire.specs.Within.{Within};
-ghost use Rattle.market.specs.Bytes.{u8At, u16At, u32At, i32At};
-ghost use Rattle.market.specs.Case.{curveNumbered, contingencyReserve, regulatingReserve, shortTermReserve};
-ghost use Rattle.market.specs.CaseFile.{resourceAt, resourcePlace, caseOf};
-ghost use Rattle.market.specs.Records.{kw, cents, shiftFactor, power, price, perMinute, minutes, thousandths, offerStepOf, offerStepsOf, stateOf, outputLimitsOf, rampsOf, startsOf, reserveOffersOf, recordOf, reserveTermsOf, termsOf, curveStepsOf, zoneRequirementsOf};
-ghost use Rattle.records.specs.Places.{HeadIn, CurveIn, ZoneIn, ResourceIn, FlowgateIn, FactorIn, termsAt, curveStepAt};
-use market::Cents;
+ghost use Rattle.market.specs.Bytes.{u8At};
+ghost use Rattle.market.specs.Case.{curveNumbered, Reserve, contingencyReserve, regulatingReserve, shortTermReserve};
+ghost use Rattle.market.specs.CaseFile.{pairPlace, shareOrder, resourceAt, caseOf};
+ghost use Rattle.market.specs.Records.{kw, shiftFactor, power, minutes, offerStepOf, offerStepsOf, stateOf, outputLimitsOf, rampsOf, startsOf, reserveOffersOf, recordOf, reserveTermsOf, termsOf, curveStepOf, curveStepsOf, zoneRequirementsOf};
+ghost use Rattle.records.specs.Places.{HeadIn, CurveIn, ZoneIn, ResourceIn, FlowgateIn, FactorIn};
 use market::CurveSteps;
 use market::Flags;
 use market::Kw;
-use market::KwPerMinute;
 use market::Minutes;
 use market::OfferSteps;
 use market::OutputLimits;
@@ -26,69 +24,17 @@ use market::State;
 use market::Status;
 use market::Step;
 use market::Terms;
-use market::Thousandths;
 use market::ZoneRequirements;
 
-// ---- a figure in its unit
+// ---- a resource, whose 154 bytes begin at `at`
 
-fn kw_at(b: &[u8], at: usize) -> Kw
-    requires { ⌜ Within (now b) at 4 ⌝ }
-    ensures { λ r. ⌜ r ≡ power (u32At (now (b .entry)) at) ⌝ }
-{
-    Kw(wire::u32_at(b, at) as i64)
-}
-
-fn signed_kw_at(b: &[u8], at: usize) -> Kw
-    requires { ⌜ Within (now b) at 4 ⌝ }
-    ensures { λ r. ⌜ r ≡ kw (i32At (now (b .entry)) at) ⌝ }
-{
-    Kw(wire::i32_at(b, at))
-}
-
-fn per_minute_at(b: &[u8], at: usize) -> KwPerMinute
-    requires { ⌜ Within (now b) at 4 ⌝ }
-    ensures { λ r. ⌜ r ≡ perMinute (u32At (now (b .entry)) at) ⌝ }
-{
-    KwPerMinute(wire::u32_at(b, at) as i64)
-}
-
-fn minutes_at(b: &[u8], at: usize) -> Minutes
-    requires { ⌜ Within (now b) at 2 ⌝ }
-    ensures { λ r. ⌜ r ≡ minutes (u16At (now (b .entry)) at) ⌝ }
-{
-    Minutes(wire::u16_at(b, at))
-}
-
-// Of one byte.
+// Minutes since trip: one byte.
 fn trip_at(b: &[u8], at: usize) -> Minutes
     requires { ⌜ Within (now b) at 1 ⌝ }
     ensures { λ r. ⌜ r ≡ minutes (u8At (now (b .entry)) at) ⌝ }
 {
     Minutes(wire::u8_at(b, at) as u32)
 }
-
-fn thousandths_at(b: &[u8], at: usize) -> Thousandths
-    requires { ⌜ Within (now b) at 2 ⌝ }
-    ensures { λ r. ⌜ r ≡ thousandths (u16At (now (b .entry)) at) ⌝ }
-{
-    Thousandths(wire::u16_at(b, at))
-}
-
-fn cents_at(b: &[u8], at: usize) -> Cents
-    requires { ⌜ Within (now b) at 4 ⌝ }
-    ensures { λ r. ⌜ r ≡ price (u32At (now (b .entry)) at) ⌝ }
-{
-    Cents(wire::u32_at(b, at) as i64)
-}
-
-fn signed_cents_at(b: &[u8], at: usize) -> Cents
-    requires { ⌜ Within (now b) at 4 ⌝ }
-    ensures { λ r. ⌜ r ≡ cents (i32At (now (b .entry)) at) ⌝ }
-{
-    Cents(wire::i32_at(b, at))
-}
-
-// ---- a resource, whose 154 bytes begin at `at`
 
 // The status is read last: masked between the others, it makes the certificate check 3 in 100 slower.
 fn state_at(b: &[u8], at: usize) -> State
@@ -101,7 +47,7 @@ fn state_at(b: &[u8], at: usize) -> State
         breaker: wire::u8_at(b, at + 2),
         trip: trip_at(b, at + 4),
         flags: Flags::of(wire::u8_at(b, at + 5)),
-        output: signed_kw_at(b, at + 6),
+        output: wire::signed_kw_at(b, at + 6),
         status: Status::masked(wire::u8_at(b, at + 3)),
     }
 }
@@ -111,12 +57,12 @@ fn limits_at(b: &[u8], at: usize) -> OutputLimits
     ensures { λ r. ⌜ r ≡ outputLimitsOf (resourceAt (now (b .entry)) at) ⌝ }
 {
     OutputLimits {
-        economic_min: kw_at(b, at + 10),
-        economic_max: kw_at(b, at + 14),
-        regulating_min: kw_at(b, at + 18),
-        regulating_max: kw_at(b, at + 22),
-        emergency_min: kw_at(b, at + 26),
-        emergency_max: kw_at(b, at + 30),
+        economic_min: wire::kw_at(b, at + 10),
+        economic_max: wire::kw_at(b, at + 14),
+        regulating_min: wire::kw_at(b, at + 18),
+        regulating_max: wire::kw_at(b, at + 22),
+        emergency_min: wire::kw_at(b, at + 26),
+        emergency_max: wire::kw_at(b, at + 30),
     }
 }
 
@@ -125,9 +71,9 @@ fn ramps_at(b: &[u8], at: usize) -> Ramps
     ensures { λ r. ⌜ r ≡ rampsOf (resourceAt (now (b .entry)) at) ⌝ }
 {
     Ramps {
-        up: per_minute_at(b, at + 34),
-        down: per_minute_at(b, at + 38),
-        rate: per_minute_at(b, at + 42),
+        up: wire::per_minute_at(b, at + 34),
+        down: wire::per_minute_at(b, at + 38),
+        rate: wire::per_minute_at(b, at + 42),
     }
 }
 
@@ -136,10 +82,10 @@ fn starts_at(b: &[u8], at: usize) -> Starts
     ensures { λ r. ⌜ r ≡ startsOf (resourceAt (now (b .entry)) at) ⌝ }
 {
     Starts {
-        initial: kw_at(b, at + 46),
-        off_line_response: kw_at(b, at + 50),
-        off_line_short_term: kw_at(b, at + 54),
-        self_schedule: kw_at(b, at + 58),
+        initial: wire::kw_at(b, at + 46),
+        off_line_response: wire::kw_at(b, at + 50),
+        off_line_short_term: wire::kw_at(b, at + 54),
+        self_schedule: wire::kw_at(b, at + 58),
     }
 }
 
@@ -148,9 +94,9 @@ fn reserve_offers_at(b: &[u8], at: usize) -> ReserveOffers
     ensures { λ r. ⌜ r ≡ reserveOffersOf (resourceAt (now (b .entry)) at) ⌝ }
 {
     ReserveOffers {
-        regulating: cents_at(b, at + 62),
-        contingency: cents_at(b, at + 66),
-        off_line_short_term: cents_at(b, at + 70),
+        regulating: wire::cents_at(b, at + 62),
+        contingency: wire::cents_at(b, at + 66),
+        off_line_short_term: wire::cents_at(b, at + 70),
     }
 }
 
@@ -159,8 +105,8 @@ fn offer_step_at(b: &[u8], at: usize, j: usize) -> Step
     ensures { λ r. ⌜ r ≡ offerStepOf (resourceAt (now (b .entry)) at) j ⌝ }
 {
     Step {
-        width: kw_at(b, at + 74 + j * 8),
-        price: signed_cents_at(b, at + 78 + j * 8),
+        width: wire::kw_at(b, at + 74 + j * 8),
+        price: wire::signed_cents_at(b, at + 78 + j * 8),
     }
 }
 
@@ -200,7 +146,7 @@ fn resource_from(b: &[u8], at: usize) -> Resource
 // Resource i of a case of so many zones.
 pub fn resource_at(b: &[u8], zones: usize, i: usize) -> Resource
     requires { ⌜ ResourceIn (now b) zones i ⌝ }
-    ensures { λ r. ⌜ r ≡ recordOf (resourceAt (now (b .entry)) (resourcePlace zones i)) ⌝ }
+    ensures { λ r. ⌜ r ≡ recordOf (caseOf (now (b .entry)) .resource i) ⌝ }
 {
     resource_from(b, 170 + zones * 16 + i * 154)
 }
@@ -208,7 +154,7 @@ pub fn resource_at(b: &[u8], zones: usize, i: usize) -> Resource
 // The energy steps of resource i.
 pub fn offer_steps(b: &[u8], zones: usize, i: usize) -> OfferSteps
     requires { ⌜ ResourceIn (now b) zones i ⌝ }
-    ensures { λ r. ⌜ r ≡ offerStepsOf (resourceAt (now (b .entry)) (resourcePlace zones i)) ⌝ }
+    ensures { λ r. ⌜ r ≡ offerStepsOf (caseOf (now (b .entry)) .resource i) ⌝ }
 {
     offer_steps_at(b, 170 + zones * 16 + i * 154)
 }
@@ -218,9 +164,9 @@ pub fn offer_steps(b: &[u8], zones: usize, i: usize) -> OfferSteps
 // Of a zone, for the curve of number k.
 fn requirement_at(b: &[u8], z: usize, k: usize) -> Kw
     requires { ⌜ ZoneIn (now b) z × (k < 4) ⌝ }
-    ensures { λ r. ⌜ r ≡ power (u32At (now (b .entry)) (170 + z * 16 + k * 4)) ⌝ }
+    ensures { λ r. ⌜ r ≡ power (caseOf (now (b .entry)) .zoneRequirement z (curveNumbered k)) ⌝ }
 {
-    kw_at(b, 170 + z * 16 + k * 4)
+    wire::kw_at(b, 170 + z * 16 + k * 4)
 }
 
 pub fn zone_at(b: &[u8], z: usize) -> ZoneRequirements
@@ -243,19 +189,19 @@ pub fn demand(b: &[u8]) -> Kw
     requires { ⌜ HeadIn (now b) ⌝ }
     ensures { λ r. ⌜ r ≡ power (caseOf (now (b .entry)) .demand) ⌝ }
 {
-    kw_at(b, 8)
+    wire::kw_at(b, 8)
 }
 
 // Multiplier and minutes from `pair` on; share and requirement are the n-th of their three.
 fn terms_at(b: &[u8], pair: usize, n: usize) -> ReserveTerms
     requires { ⌜ HeadIn (now b) × ((pair ≤ 20) × (n < 3)) ⌝ }
-    ensures { λ r. ⌜ r ≡ termsAt (now (b .entry)) pair n ⌝ }
+    ensures { λ r. ⌜ ((p : Reserve) → pair ≡ pairPlace p → n ≡ shareOrder p → r ≡ reserveTermsOf (caseOf (now (b .entry))) p) ⌝ }
 {
     ReserveTerms {
-        multiplier: thousandths_at(b, pair),
-        minutes: minutes_at(b, pair + 2),
-        share: thousandths_at(b, 24 + n * 2),
-        requirement: kw_at(b, 30 + n * 4),
+        multiplier: wire::thousandths_at(b, pair),
+        minutes: wire::minutes_at(b, pair + 2),
+        share: wire::thousandths_at(b, 24 + n * 2),
+        requirement: wire::kw_at(b, 30 + n * 4),
     }
 }
 
@@ -293,11 +239,11 @@ pub fn terms(b: &[u8]) -> Terms
 
 fn curve_step_at(b: &[u8], k: usize, j: usize) -> Step
     requires { ⌜ CurveIn (now b) k × (j < 4) ⌝ }
-    ensures { λ r. ⌜ r ≡ curveStepAt (now (b .entry)) k j ⌝ }
+    ensures { λ r. ⌜ r ≡ curveStepOf (caseOf (now (b .entry))) (curveNumbered k) j ⌝ }
 {
     Step {
-        width: kw_at(b, 42 + k * 32 + j * 8),
-        price: cents_at(b, 46 + k * 32 + j * 8),
+        width: wire::kw_at(b, 42 + k * 32 + j * 8),
+        price: wire::cents_at(b, 46 + k * 32 + j * 8),
     }
 }
 
@@ -323,7 +269,7 @@ pub fn flowgate_limit_at(b: &[u8], resources: usize, zones: usize, f: usize) -> 
     requires { ⌜ FlowgateIn (now b) resources zones f ⌝ }
     ensures { λ r. ⌜ r ≡ kw (caseOf (now (b .entry)) .flowgateLimit f) ⌝ }
 {
-    signed_kw_at(
+    wire::signed_kw_at(
         b,
         170 + zones * 16 + resources * 154 + f * (4 + resources * 2),
     )

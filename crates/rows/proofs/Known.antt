@@ -15,7 +15,7 @@ use Rattle.market.specs.declared.First.{First}
 use Rattle.market.specs.declared.First.the-variants.{None, At}
 use Rattle.market.specs.declared.Refusal.{Refusal}
 use Rattle.market.specs.Case.{Case, curves}
-use Rattle.market.specs.CaseFile.{caseOf, resourceAt, resourcePlace}
+use Rattle.market.specs.CaseFile.{caseOf}
 use Rattle.market.specs.UpperBounds.{energy}
 use Rattle.market.specs.Rows.{Row, Balance, Zone, Flowgate, marketRows, zoneRows, flowgateRows, limitRows, rows}
 use Rattle.market.specs.Certificate.{certificateOf}
@@ -24,7 +24,6 @@ use Rattle.market.specs.Records.{recordOf}
 use Rattle.market.specs.Refusals.{Finding, foundAt, firstFailing}
 use Rattle.market.proofs.FirstFailing.{orElse, first-append, first-none, passes, fails}
 use Rattle.records.specs.Ranged.{Ranged}
-use Rattle.records.proofs.Places.{resource-is}
 use Rattle.records.proofs.Ranged.{valid-resource}
 use Rattle.prices.specs.Standing.{Standing}
 use Rattle.prices.proofs.Known.{factor-size, resource-below}
@@ -65,8 +64,8 @@ module _ {b q : List ℕ} {r z f : ℕ} (s : Standing b q r z f) where
       )
 
   -- ---- a resource's record
-  pub resource-ranged : (i : ℕ) → i < r → Ranged (recordOf (resourceAt b (resourcePlace z i)))
-  resource-ranged i h = rw (resource-is (s .prices .case-bytes) i) (valid-resource b (s .prices .valid) i (resource-below (s .prices) h))
+  pub resource-ranged : (i : ℕ) → i < r → Ranged (recordOf (caseOf b .resource i))
+  resource-ranged i h = valid-resource b (s .prices .valid) i (resource-below (s .prices) h)
 
 -- ---- the rows family by family
 module _ (c : Case) where

@@ -1,12 +1,20 @@
-// Big-endian numbers at a place of a slice of bytes, out of it and into it. Each function asks that the bytes that it
+// Big-endian numbers at a place of a slice of bytes, out of it, plain or in their unit, and into it. Each function asks that the bytes that it
 // reads or writes lie within the slice.
 ghost use mathlib.Core.Path.{_≡_};
+ghost use lib.IntN.{pos};
 ghost use Prim.Native.Nat.{ℕ, _+_, _<_, _≤_};
 ghost use Rattle.market.specs.Bytes.{u8At, u16At, u32At, signed, i16At, i32At};
 ghost use mathlib.Core.List.{[], _∷_};
+ghost use Rattle.market.specs.Records.{kw, cents, millicents, power, price, perMinute, minutes, thousandths};
 ghost use Rattle.market.specs.Numbers.{u16Bytes, u32Bytes, unsigned, i16, i32, fieldBytes};
 ghost use Rattle.wire.specs.ByteOrder.{littleEndian16, littleEndian32, swapped16, swapped32};
 ghost use Rattle.wire.specs.Within.{Within, Signed, written};
+use market::Cents;
+use market::Kw;
+use market::KwPerMinute;
+use market::Millicents;
+use market::Minutes;
+use market::Thousandths;
 
 fn wide(x: u8) -> u32
     ensures { λ r. ⌜ (r ≡ x) × (r < 256) ⌝ }
@@ -107,6 +115,71 @@ pub fn i32_at(b: &[u8], at: usize) -> i64
 {
     let n = u32_at(b, at);
     signed_32(n)
+}
+
+// ---- a figure in its unit
+
+pub fn kw_at(b: &[u8], at: usize) -> Kw
+    requires { ⌜ Within (now b) at 4 ⌝ }
+    ensures { λ r. ⌜ r ≡ power (u32At (now (b .entry)) at) ⌝ }
+{
+    Kw(u32_at(b, at) as i64)
+}
+
+pub fn signed_kw_at(b: &[u8], at: usize) -> Kw
+    requires { ⌜ Within (now b) at 4 ⌝ }
+    ensures { λ r. ⌜ r ≡ kw (i32At (now (b .entry)) at) ⌝ }
+{
+    Kw(i32_at(b, at))
+}
+
+pub fn per_minute_at(b: &[u8], at: usize) -> KwPerMinute
+    requires { ⌜ Within (now b) at 4 ⌝ }
+    ensures { λ r. ⌜ r ≡ perMinute (u32At (now (b .entry)) at) ⌝ }
+{
+    KwPerMinute(u32_at(b, at) as i64)
+}
+
+pub fn minutes_at(b: &[u8], at: usize) -> Minutes
+    requires { ⌜ Within (now b) at 2 ⌝ }
+    ensures { λ r. ⌜ r ≡ minutes (u16At (now (b .entry)) at) ⌝ }
+{
+    Minutes(u16_at(b, at))
+}
+
+pub fn thousandths_at(b: &[u8], at: usize) -> Thousandths
+    requires { ⌜ Within (now b) at 2 ⌝ }
+    ensures { λ r. ⌜ r ≡ thousandths (u16At (now (b .entry)) at) ⌝ }
+{
+    Thousandths(u16_at(b, at))
+}
+
+pub fn cents_at(b: &[u8], at: usize) -> Cents
+    requires { ⌜ Within (now b) at 4 ⌝ }
+    ensures { λ r. ⌜ r ≡ price (u32At (now (b .entry)) at) ⌝ }
+{
+    Cents(u32_at(b, at) as i64)
+}
+
+pub fn signed_cents_at(b: &[u8], at: usize) -> Cents
+    requires { ⌜ Within (now b) at 4 ⌝ }
+    ensures { λ r. ⌜ r ≡ cents (i32At (now (b .entry)) at) ⌝ }
+{
+    Cents(i32_at(b, at))
+}
+
+pub fn millicents_at(b: &[u8], at: usize) -> Millicents
+    requires { ⌜ Within (now b) at 4 ⌝ }
+    ensures { λ r. ⌜ r ≡ millicents (pos (u32At (now (b .entry)) at)) ⌝ }
+{
+    Millicents(u32_at(b, at) as i64)
+}
+
+pub fn signed_millicents_at(b: &[u8], at: usize) -> Millicents
+    requires { ⌜ Within (now b) at 4 ⌝ }
+    ensures { λ r. ⌜ r ≡ millicents (i32At (now (b .entry)) at) ⌝ }
+{
+    Millicents(i32_at(b, at))
 }
 
 // ---- into a slice: the other bytes stay as they are

@@ -4,7 +4,7 @@ use native.Mathlib.Omega.{arith}
 use Rattle.market.specs.CaseFile.{caseOf}
 use Rattle.market.specs.Certificate.{certificateOf}
 use Rattle.market.specs.Records.{offerStepsOf}
-use Rattle.records.proofs.Places.{head-in, resource-in, steps-are}
+use Rattle.records.proofs.Places.{head-in, resource-in}
 use Rattle.records.proofs.Ranged.{valid-resource}
 use Rattle.prices.proofs.Known.{case-ranges, prices-in-range, resource-below}
 use Rattle.nets.proofs.Known.{nets-small}
@@ -32,7 +32,7 @@ offer-steps-at-requires c κs =
 offered : (c : tie.After-offer-steps-at) →
     let s = c .before .before .before .before .before .before in
     c .offer-steps-at .result ≡ offerStepsOf (caseOf (s .args .b .now) .resource (s .args .i))
-offered c = let s = c .before .before .before .before .before .before in steps-are (s .pre .0 .0 .case-bytes) (s .args .i) (c .offer-steps-at .ensures)
+offered c = c .offer-steps-at .ensures
 
 steps-least-requires : tie.Need-steps-least-requires
 steps-least-requires c κs =

@@ -3,7 +3,6 @@ use native.Mathlib.Omega.{arith}
 use Rattle.market.specs.CaseFile.{caseOf}
 use Rattle.market.specs.Certificate.{certificateOf}
 use Rattle.market.specs.Records.{recordOf}
-use Rattle.records.proofs.Places.{record-is}
 use Rattle.records.proofs.Ranged.{valid-resource}
 use Rattle.prices.proofs.Known.{case-ranges, prices-in-range, resource-below}
 use Rattle.nets.proofs.Known.{limit-prices-small}
@@ -16,7 +15,7 @@ use Rattle.bounds.proofs.resource_terms.Tie as tie
 resource : (c : tie.After-resource-at) →
     let s = c .before .before .before .before in
     c .resource-at .result ≡ recordOf (caseOf (s .args .b .now) .resource (s .args .i))
-resource c = let s = c .before .before .before .before in record-is (s .pre .0 .case-bytes) (s .args .i) (c .resource-at .ensures)
+resource c = c .resource-at .ensures
 
 limits-of-requires : tie.Need-limits-of-requires
 limits-of-requires c κs = let s = c .before .before .before .before in rw (resource c) (valid-resource (s .args .b .now) (s .pre .0 .valid) (s .args .i) (resource-below (s .pre .0) (s .pre .1)))

@@ -11,7 +11,7 @@ use Rattle.market.specs.UpperBounds.{upperBound}
 use Rattle.market.specs.Certificate.{certificateOf}
 use Rattle.market.specs.Refusals.{clear, firstFailing, foundAt}
 use Rattle.market.specs.Outcome.{withinBound}
-use Rattle.records.proofs.Places.{head-in, resource-in, record-is, steps-are}
+use Rattle.records.proofs.Places.{head-in, resource-in}
 use Rattle.limits.proofs.Products.{terms-ranged}
 use Rattle.certificates.proofs.Figures.{resource-ranged, steps-ranged}
 use Rattle.certificates.proofs.Above.{provided, none-yet, still-none, found-here}
@@ -58,8 +58,8 @@ found : (c : tie.After-provided-above Inv-loop μ-loop) →
 found c =
     let s = c .before .before .before .before .before .before .before .before .before .before in
     let l = c .before .before .before .before .before .before .loop in
-    let resource = record-is (s .pre .case-bytes) (l .i) (c .before .before .before .before .resource-at .ensures) in
-    let steps = steps-are (s .pre .case-bytes) (l .i) (c .before .before .before .offer-steps-at .ensures) in
+    let resource = c .before .before .before .before .resource-at .ensures in
+    let steps = c .before .before .before .offer-steps-at .ensures in
     let most = c .before .before .service-bounds .ensures (caseOf (s .args .b .now)) (l .i) (c .before .before .before .before .before .before .before .terms-in .ensures) resource steps in
     c .provided-above .ensures (certificateOf (s .args .q .now) .amount) (upperBound (caseOf (s .args .b .now))) (l .i) (c .before .amounts-at .ensures) most
 

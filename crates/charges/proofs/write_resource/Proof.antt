@@ -9,7 +9,7 @@ use borrow.Author.Needs.{needs}
 use Rattle.arith.specs.Sums.{upto}
 use Rattle.market.specs.Records.{recordOf, offerStepsOf}
 use Rattle.market.specs.CaseFile.{caseOf}
-use Rattle.records.proofs.Places.{head-in, resource-in, record-is, steps-are}
+use Rattle.records.proofs.Places.{head-in, resource-in}
 use Rattle.costs.proofs.Known.{resource-known}
 use Rattle.arith.proofs.Buffers.{rest-length, write-on}
 use Rattle.charges.specs.Terms.{energyCharge, reserveCharges}
@@ -22,13 +22,13 @@ use Rattle.charges.proofs.write_resource.Tie as tie
 resource : (c : tie.After-resource-at) →
     let s = c .before .before .before in
     c .resource-at .result ≡ recordOf (caseOf (s .args .b .now) .resource (s .args .i))
-resource c = let s = c .before .before .before in record-is (s .pre .0 .0 .prices .case-bytes) (s .args .i) (c .resource-at .ensures)
+resource c = c .resource-at .ensures
 
 -- so are the steps
 steps : (c : tie.After-offer-steps-at) →
     let s = c .before .before .before .before .before .before .before .before in
     c .offer-steps-at .result ≡ offerStepsOf (caseOf (s .args .b .now) .resource (s .args .i))
-steps c = let s = c .before .before .before .before .before .before .before .before in steps-are (s .pre .0 .0 .prices .case-bytes) (s .args .i) (c .offer-steps-at .ensures)
+steps c = c .offer-steps-at .ensures
 
 -- behind the steps there is room for the reserves
 room : (c : tie.After-write-steps) → 14 ≤ length (c .write-steps .last .1 .1 .1 .1 .0)

@@ -4,7 +4,6 @@ use borrow.Author.Needs.{needs}
 use Rattle.market.specs.Records.{recordOf, offerStepsOf}
 use Rattle.market.specs.Certificate.{certificateOf}
 use Rattle.market.specs.CaseFile.{caseOf}
-use Rattle.records.proofs.Places.{record-is, steps-are}
 use Rattle.costs.specs.Worth.{thousands}
 use Rattle.costs.proofs.Known.{resource-known, steps-known, energy-known, amounts-known, resource-room}
 use Rattle.costs.proofs.Totals.{resource-worth-is}
@@ -13,11 +12,11 @@ use Rattle.costs.proofs.resource_worth.Tie as tie
 
 -- the record that is read is the case's
 found : (c : tie.After-resource-at) → c .resource-at .result ≡ recordOf (caseOf (c .before .before .before .args .b .now) .resource (c .before .before .before .args .i))
-found c = record-is (c .before .before .before .pre .0 .prices .case-bytes) (c .before .before .before .args .i) (c .resource-at .ensures)
+found c = c .resource-at .ensures
 
 -- so are the steps
 steps : (c : tie.After-offer-steps-at) → let s = c .before .before .before .before .before in c .offer-steps-at .result ≡ offerStepsOf (caseOf (s .args .b .now) .resource (s .args .i))
-steps c = let s = c .before .before .before .before .before in steps-are (s .pre .0 .prices .case-bytes) (s .args .i) (c .offer-steps-at .ensures)
+steps c = c .offer-steps-at .ensures
 
 energy-worth-requires : tie.Need-energy-worth-requires
 energy-worth-requires c κs = let s = c .before .before .before .before .before in rw (steps c, c .before .amounts-at .ensures) (steps-known (s .pre .0) (s .args .i) (s .pre .1), energy-known (s .pre .0) (s .args .i) (s .pre .1))

@@ -1,18 +1,15 @@
-use denote.Ref.{now}
-use Rattle.entries.proofs.Laws.{balance-price-is}
+-- `entries::balance_price` meets its contract. Assumes nothing.
 use native.Mathlib.Omega.{arith}
-use borrow.Author.Needs.{sfits-of}
-use mir.Syntax.{w64}
-use mir.Facts.{toZ-ofZ}
-use borrow.Author.Needs.{needs}
+use Rattle.market.specs.Certificate.{certificateOf, priceAt}
 use Rattle.entries.proofs.balance_price.Statement.{statement}
 use Rattle.entries.proofs.balance_price.Tie as tie
 
-i32-at-requires : tie.Need-i32-at-requires
-i32-at-requires c κs = omega (arith, c .before .pre .sized)
+signed-millicents-at-requires : tie.Need-signed-millicents-at-requires
+signed-millicents-at-requires c κs = omega (arith, c .before .pre .sized)
 
 returns : tie.Need-returns
-returns c = rw (toZ-ofZ (sfits-of {w = w64} (c .i32-at .ok)), c .i32-at .ensures, balance-price-is (now (c .before .before .args .q)))
+unfolding certificateOf priceAt
+returns c = c .signed-millicents-at .ensures
 
 pub balance-price-spec : {M : Type 1} → statement M
-balance-price-spec = tie.close (tie.spec i32-at-requires returns)
+balance-price-spec = tie.close (tie.spec signed-millicents-at-requires returns)

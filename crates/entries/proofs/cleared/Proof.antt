@@ -1,3 +1,4 @@
+-- `entries::cleared` meets its contract: the record field by field, each from what its reader ensures. Assumes nothing.
 use Rattle.market.specs.Certificate.{certificateOf, amountAt}
 use Rattle.market.specs.Records.{clearedOf}
 use borrow.Author.Needs.{needs}

@@ -1,14 +1,14 @@
-use Rattle.entries.proofs.Laws.{flowgate-price-is}
-use Rattle.arith.proofs.Machine.{small-bits}
-use native.Mathlib.Omega.{arith}
+-- `entries::flowgate_price_at` meets its contract: the count of zones passed is that of the file. Assumes nothing.
 use borrow.Author.Needs.{needs}
+use Rattle.market.specs.Certificate.{certificateOf, priceAt}
 use Rattle.entries.proofs.flowgate_price_at.Statement.{statement}
 use Rattle.entries.proofs.flowgate_price_at.Tie as tie
 
 returns : tie.Need-returns
-returns c = rw (small-bits (c .u32-at .result) (omega arith), c .u32-at .ensures, flowgate-price-is _ _ _ _ (c .before .before .pre .0) (c .before .before .args .flowgate))
+unfolding certificateOf priceAt
+returns c = rw (c .before .before .pre .0 .zones-are) (c .cents-at .ensures)
 
 pub flowgate-price-at-spec : {M : Type 1} → statement M
 flowgate-price-at-spec =
     tie.close
-    (tie.spec (λ c. search needs) (λ c. search needs) (λ c. search needs) (λ c. search needs) (λ c κs. search needs) (λ c. search needs) returns)
+    (tie.spec (λ c. search needs) (λ c. search needs) (λ c. search needs) (λ c. search needs) (λ c κs. search needs) returns)

@@ -1,11 +1,14 @@
-use denote.Ref.{now}
-use Rattle.entries.proofs.Laws.{zone-prices-are}
+-- `entries::zone_prices_at` meets its contract. Assumes nothing.
+use mathlib.Core.Path.{refl}
 use borrow.Author.Needs.{needs}
+use Rattle.market.specs.Rows.{Zone}
+use Rattle.market.specs.Certificate.{certificateOf, priceAt}
 use Rattle.entries.proofs.zone_prices_at.Statement.{statement}
 use Rattle.entries.proofs.zone_prices_at.Tie as tie
 
 returns : tie.Need-returns
-returns c = rw (c .reserve-prices-at .ensures, zone-prices-are (now (c .before .before .args .q)) (c .before .before .args .zone))
+unfolding certificateOf priceAt
+returns c = c .reserve-prices-at .ensures (Zone (c .before .before .args .zone)) (λ k. refl)
 
 pub zone-prices-at-spec : {M : Type 1} → statement M
 zone-prices-at-spec =

@@ -1,13 +1,12 @@
 -- `records::zone_at` meets its contract: the four requirements in the order of the curves. Assumes nothing.
 use mathlib.Core.List.{[], _∷_}
 use borrow.Author.Needs.{needs}
-use Rattle.market.specs.CaseFile.{caseOf}
 use Rattle.market.specs.Records.{zoneRequirementsOf}
 use Rattle.records.proofs.zone_at.Statement.{statement}
 use Rattle.records.proofs.zone_at.Tie as tie
 
 returns : tie.Need-returns
-unfolding zoneRequirementsOf caseOf
+unfolding zoneRequirementsOf
 returns c = λ i.
     record {
       of =

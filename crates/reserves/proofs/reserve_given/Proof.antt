@@ -6,7 +6,6 @@ use Rattle.market.specs.UpperBounds.{contingency}
 use Rattle.market.specs.Certificate.{certificateOf}
 use Rattle.market.specs.InWords.{isSpinning, kwOf, reserveOf}
 use Rattle.market.specs.Records.{kw, recordOf, stateOf, amountsOf, curveAmountsOf}
-use Rattle.records.proofs.Places.{record-is}
 use Rattle.limits.proofs.Fields.{state-is}
 use Rattle.reserves.specs.Given.{zonedAmountsOf}
 use Rattle.reserves.proofs.Known.{amounts-small, spin-small, given-is}
@@ -21,7 +20,7 @@ spin-is : (c : tie.After-spinning) →
 unfolding amountsOf
 spin-is c =
     let s = c .before .before .before .before .before in
-    c .spinning .ensures (caseOf (s .args .b .now) .resource (s .args .i)) (state-is _ (record-is (s .pre .0 .prices .case-bytes) (s .args .i) (c .before .before .resource-at .ensures)))
+    c .spinning .ensures (caseOf (s .args .b .now) .resource (s .args .i)) (state-is _ (c .before .before .resource-at .ensures))
     ∙ rw (c .before .amounts-at .ensures)
 
 given-requires : tie.Need-given-requires
@@ -40,7 +39,7 @@ returns : tie.Need-returns
 unfolding zonedAmountsOf recordOf stateOf
 returns c =
     let s = c .before .before .before .before .before .before in
-    let resource = record-is (s .pre .0 .prices .case-bytes) (s .args .i) (c .before .before .before .resource-at .ensures) in
+    let resource = c .before .before .before .resource-at .ensures in
     λ j. record { zone = resource j .state .zone; amounts = amounts-are c j }
 
 pub reserve-given-spec : {M : Type 1} → statement M

@@ -6,7 +6,6 @@ use lib.ListN.{drop}
 use borrow.Author.Needs.{needs}
 use Rattle.market.specs.CaseFile.{caseOf}
 use Rattle.market.specs.Certificate.{certificateOf}
-use Rattle.records.proofs.Places.{record-is}
 use Rattle.limits.specs.Together.{limitsOf}
 use Rattle.prices.proofs.Known.{case-ranges, prices-in-range, resource-below}
 use Rattle.reserves.proofs.Known.{amounts-small}
@@ -27,7 +26,7 @@ own-is : (c : tie.After-limits-of) →
     c .limits-of .result ≡ limitsOf (caseOf (s .args .b .now) .resource (s .args .i))
 own-is c =
     let s = c .before .before .before .before .before in
-    c .limits-of .ensures (caseOf (s .args .b .now) .resource (s .args .i)) (record-is (s .pre .0 .prices .case-bytes) (s .args .i) (c .before .resource-at .ensures))
+    c .limits-of .ensures (caseOf (s .args .b .now) .resource (s .args .i)) (c .before .resource-at .ensures)
 
 write-five-requires : tie.Need-write-five-requires
 write-five-requires c κs =

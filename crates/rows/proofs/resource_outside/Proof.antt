@@ -1,12 +1,10 @@
-use mathlib.Core.Path.{_≡_, ap, _∙_}
+use mathlib.Core.Path.{_≡_}
 use mathlib.Core.List.{map}
 use Rattle.market.specs.declared.Refusal.the-variants.{RowBroken}
 use Rattle.market.specs.CaseFile.{caseOf}
 use Rattle.market.specs.Rows.{Limited, limits}
 use Rattle.market.specs.Certificate.{certificateOf}
 use Rattle.market.specs.Outcome.{rowMet}
-use Rattle.market.specs.Records.{recordOf}
-use Rattle.records.proofs.Places.{resource-is}
 use Rattle.prices.proofs.Known.{resource-below}
 use Rattle.reserves.proofs.Known.{amounts-small}
 use Rattle.limits.specs.Together.{limitsOf}
@@ -29,7 +27,7 @@ own-is : (c : tie.After-limits-of) →
     c .limits-of .result ≡ limitsOf ((caseOf (s .args .b .now)) .resource (s .args .i))
 own-is c =
     let s = c .before .before .before .before in
-    c .limits-of .ensures ((caseOf (s .args .b .now)) .resource (s .args .i)) (c .before .resource-at .ensures ∙ ap recordOf (resource-is (s .pre .0 .prices .case-bytes) (s .args .i)))
+    c .limits-of .ensures ((caseOf (s .args .b .now)) .resource (s .args .i)) (c .before .resource-at .ensures)
 
 returns : tie.Need-returns
 returns c =
