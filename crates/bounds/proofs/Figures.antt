@@ -1,7 +1,7 @@
 -- Figures in grains: how large they can be, and sums of them in a loop.
 use mathlib.Core.Path.{_≡_, refl, ap, _∙_}
 use mathlib.Core.Bool.{Bool, true, false}
-use Prim.Native.Nat.{ℕ, _+_, _*_, _≤_}
+use Prim.Native.Nat.{ℕ, _+_, _*_, _<_, _≤_}
 use native.Mathlib.Nat.{mul-le-mul, mul-le-mul-right}
 use native.Mathlib.Omega.{arith}
 use lib.IntN.{ℤ, pos, natAbs, _+ℤ_, _*ℤ_}
@@ -12,8 +12,9 @@ use Rattle.market.specs.declared.Grains.{Grains}
 use Rattle.market.specs.declared.Kw.{Kw}
 use Rattle.market.specs.declared.Millicents.{Millicents}
 use Rattle.market.specs.Records.{grains}
+use Rattle.market.specs.Fits.{range64}
 use Rattle.units.specs.Room.{ProductRoom}
-use Rattle.bounds.specs.Sizes.{Figure, RowRoom, LeastRoom}
+use Rattle.bounds.specs.Sizes.{Figure, RowRoom}
 use Rattle.bounds.specs.Terms.{stepBound}
 
 pub figure-is : {g : Grains} {v : ℤ} {most : ℕ} → g ≡ grains v → natAbs v ≤ most → Figure g v most
@@ -38,12 +39,13 @@ one-more term k h j g l = record { is = g .is ∙ rw (h .is, j .is, sum-upto ter
 pub all-of : (term : ℕ → ℤ) {g : Grains} {k n m t : ℕ} → Figure g (sumOf term (upto k)) m → k ≡ n → m ≤ t → Figure g (sumOf term (upto n)) t
 all-of term h e l = figure-as h (ap (λ (j : ℕ). sumOf term (upto j)) e) l
 
--- ---- products fit
-pub row-room : {price : Millicents} {side : Kw} → RowRoom price side → ProductRoom (price .0) (side .0)
-row-room h = record { left = omega arith; right = omega arith; product = omega (arith, mul-le-mul (h .row-price) (h .right-side)) }
+-- ---- products
+-- each factor within its figure: the product fits
+pub product-room : {a b : ℤ} {m n : ℕ} → natAbs a ≤ m → natAbs b ≤ n → m < range64 → n < range64 → m * n < range64 → ProductRoom a b
+product-room h k l r p = record { left = omega arith; right = omega arith; product = omega (arith, mul-le-mul h k) }
 
-pub least-room : {net : Millicents} {upper : Kw} → LeastRoom net upper → ProductRoom (net .0) (upper .0)
-least-room h = record { left = omega arith; right = omega arith; product = omega (arith, mul-le-mul (h .net-price) (h .upper-bound)) }
+pub row-room : {price : Millicents} {side : Kw} → RowRoom price side → ProductRoom (price .0) (side .0)
+row-room h = product-room (h .row-price) (h .right-side) (omega arith) (omega arith) (omega arith)
 
 -- a step of a resource that is not on-line
 pub step-bound-most : (on : Bool) (w : Kw) → natAbs (stepBound on w .0) ≤ natAbs (w .0)

@@ -1,3 +1,4 @@
 pub mod Figures
 pub mod RowTerms
+pub mod PricedSizes
 pub mod PricedTerms

@@ -1,22 +1,18 @@
--- The priced quantities' part of the bound: what the records of a case and net prices make of it, and that they are small enough;
--- then the whole bound.
+-- The priced quantities' part of the bound: what the records of a case and net prices make of it; then the whole
+-- bound.
 use mathlib.Core.Path.{_≡_, refl, sym, _∙_}
 use mathlib.Core.Bool.{Bool, true, false, cond}
 use mathlib.Core.List.{List, map}
-use Prim.Native.Nat.{ℕ, suc, _+_, _<_, _≤_}
-use native.Mathlib.Nat.{le-refl}
-use native.Mathlib.Numerals.{add-one}
+use Prim.Native.Nat.{ℕ, _<_}
 use native.Mathlib.Omega.{arith}
-use lib.IntN.{ℤ, pos, natAbs, _+ℤ_, +ℤ-idr}
+use lib.IntN.{ℤ, pos, _+ℤ_, +ℤ-idr}
 use Rattle.arith.specs.Sums.{sumOf, upto, across}
 use Rattle.arith.proofs.Lists.{each-upto}
 use Rattle.arith.proofs.Linear.{sorted, count}
 use Rattle.arith.proofs.Sums.{sum-each-ext, append-sums, sum-add, sum-map, sum-across}
-use Rattle.arith.proofs.NaturalSums.{total-mono, total-suc, total-longer}
 use Rattle.market.specs.Case.{Case, Curve, curves, operating, regulatingPlusSpinning, regulating, shortTerm, energySteps, curveSteps}
 use Rattle.market.specs.CaseFile.{caseOf}
 use Rattle.market.specs.declared.CurveSteps.{CurveSteps}
-use Rattle.market.specs.declared.OfferSteps.{OfferSteps}
 use Rattle.market.specs.declared.Grains.{Grains}
 use Rattle.market.specs.declared.Millicents.{Millicents}
 use Rattle.market.specs.Availability.{onLine}
@@ -28,70 +24,20 @@ use Rattle.market.specs.Bound.{lowest}
 use Rattle.market.specs.Records.{power, millicents, offerStepOf, offerStepsOf, curveStepOf, curveStepsOf}
 use Rattle.market.proofs.NetPrices.{net-prices-in-words}
 use Rattle.market.proofs.Ranges.{CaseRanges, PriceRanges}
-use Rattle.market.proofs.Sizes.{widths-total, service-most}
-use Rattle.records.specs.Ranged.{offerStep, curveStep, RangedCurve}
+use Rattle.records.specs.Ranged.{offerStep, curveStep}
 use Rattle.records.proofs.Places.{resources-is}
 use Rattle.records.proofs.Ranged.{offer-step-is, curve-step-is}
 use Rattle.limits.specs.Together.{reserveBoundsOf}
 use Rattle.prices.specs.Standing.{PricesStand}
 use Rattle.nets.specs.NetPrices.{netsOf}
 use Rattle.nets.proofs.Known.{step-is}
-use Rattle.bounds.specs.Sizes.{SmallBounds, SmallStep, SmallSteps, stepsWidth, Figure}
+use Rattle.bounds.specs.Sizes.{Figure}
 use Rattle.bounds.specs.Terms.{rowTerm, pricedTerm, zoneTerms, flowgateTerm, limitTerms, leastTerms, resourceTerms, stepLeast, reservesLeast, curveStepLeast}
 use Rattle.bounds.proofs.RowTerms.{over-curves, rows-are}
 
 chosen : (t : Bool) (w : ℕ) → cond t (power w) (power 0) .0 ≡ pos (cond t w 0)
 chosen true w = refl
 chosen false w = refl
-
--- ---- sizes
-module _ (c : Case) (h : CaseRanges c) (i : ℕ) (n : i < c .resources) where
-  pub steps-small : SmallSteps (offerStepsOf (c .resource i))
-  unfolding offerStepOf
-  steps-small =
-      let r = c .resource i in
-      record {
-        price = λ j l. rw (offer-step-is r j l) (h .resource i n .step-price j l .le);
-        together =
-            omega (
-              arith,
-              total-mono (λ j. natAbs (offerStep (offerStepsOf r) j .width .0)) (r .stepWidth) (upto energySteps) (each-upto _ energySteps (λ j l. rw (offer-step-is r j l) (le-refl (r .stepWidth j)))),
-              widths-total (r .stepWidth) energySteps,
-              h .resource i n .widths-to,
-            );
-      }
-
-  pub bounds-small : SmallBounds (reserveBoundsOf c (c .resource i))
-  unfolding reserveBoundsOf
-  bounds-small =
-      let most = service-most (h .resource i n) c in
-      record {
-        regulation = most regulation;
-        contingency = most contingency;
-        on-line-short-term = most onLineShortTerm;
-        off-line-short-term = most offLineShortTerm;
-      }
-
--- the steps of an offer: widths so far, with one more, and all; a step by its number
-module _ {o : OfferSteps} (h : SmallSteps o) where
-  abbrev widths : ℕ → ℕ
-  widths j = natAbs (offerStep o j .width .0)
-
-  pub widths-next : (j : ℕ) → stepsWidth o (j + 1) ≡ stepsWidth o j + natAbs (offerStep o j .width .0)
-  widths-next j = rw (add-one j) (total-suc widths j)
-
-  pub widths-room : (j : ℕ) → j < energySteps → stepsWidth o j + natAbs (offerStep o j .width .0) ≤ 2000000
-  widths-room j l = omega (arith, total-suc widths j, total-longer widths {m = suc j} energySteps l, h .together)
-
-  pub widths-all : (j : ℕ) → j ≤ energySteps → stepsWidth o j ≤ 2000000
-  widths-all j l = omega (arith, total-longer widths {m = j} energySteps l, h .together)
-
-  pub step-small : (j : ℕ) → j < energySteps → SmallStep (offerStep o j)
-  step-small j l = record { width = omega (arith, widths-room j l); price = h .price j l }
-
--- a step of a curve in its ranges
-pub curve-step-small : {o : CurveSteps} → RangedCurve o → (j : ℕ) → j < curveSteps → SmallStep (curveStep o j)
-curve-step-small h j l = record { width = h .width j l .at-most; price = h .price j l .at-most }
 
 -- ---- what the records make: a resource
 over-reserves : (f : Service → ℤ) → f regulation +ℤ (f contingency +ℤ (f onLineShortTerm +ℤ f offLineShortTerm)) ≡ sumOf f reserveServices

@@ -1,7 +1,7 @@
 -- The rows' part of the bound: what the records of a case and of a certificate make of it, and that they are small enough.
 use mathlib.Core.Path.{_≡_, _∙_}
 use mathlib.Core.List.{List}
-use Prim.Native.Nat.{ℕ, _<_, _≤_}
+use Prim.Native.Nat.{ℕ, _*_, _<_, _≤_}
 use native.Mathlib.Nat.{mul-le-mul}
 use native.Mathlib.Omega.{arith}
 use lib.IntN.{ℤ, pos, negℤ, natAbs, _+ℤ_, _-ℤ_, _*ℤ_, +ℤ-idl, +ℤ-idr, *ℤ-zero}
@@ -14,10 +14,11 @@ use Rattle.market.specs.CaseFile.{caseOf}
 use Rattle.market.specs.Limits.{MAX, MIN, HI, LO}
 use Rattle.market.specs.Rows.{Balance, Market, Zone, Flowgate, Limited, maxWithReserve, maxWithShortTerm, minimum, high, low, limits, rows, rightSide}
 use Rattle.market.specs.Certificate.{Prices, certificateOf}
+use Rattle.market.specs.Sizes.{mostFlowgateLimit}
 use Rattle.market.specs.Records.{millicents, power, reservePricesOf, limitPricesOf, zoneRequirementsOf}
 use Rattle.market.proofs.TakenByRows.{rows-sum}
 use Rattle.market.proofs.Ranges.{CaseRanges}
-use Rattle.market.proofs.Sizes.{right-size}
+use Rattle.market.proofs.RowSizes.{right-size}
 use Rattle.records.proofs.Places.{resources-is, zones-is, flowgates-is}
 use Rattle.limits.specs.Together.{limitsOf}
 use Rattle.prices.specs.Standing.{PricesStand}
@@ -90,7 +91,7 @@ module _ (c : Case) (y : Prices) where
 
 -- ---- of the bytes
 module _ {b q : List ℕ} {r z f : ℕ} (s : PricesStand b q r z f) where
-  pub flowgate-side-size : (g : ℕ) → g < f → natAbs (pos 0 -ℤ pos 1000 *ℤ caseOf b .flowgateLimit g) ≤ 20000000000
+  pub flowgate-side-size : (g : ℕ) → g < f → natAbs (pos 0 -ℤ pos 1000 *ℤ caseOf b .flowgateLimit g) ≤ 1000 * mostFlowgateLimit
   flowgate-side-size g n =
       let l = caseOf b .flowgateLimit g in
       omega (arith, limit-size s g n, abs-mul (pos 1000) l, abs-sub (pos 0) (pos 1000 *ℤ l))

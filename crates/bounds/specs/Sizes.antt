@@ -1,4 +1,5 @@
--- Figures in grains with how large they can be, so that sums of them fit; and what is known of the records that they are made from.
+-- How large the terms of the bound can be, a figure for each kind of row and for each service, so that sums of them fit; and what
+-- is known of the records that they are made from. All are made from the figures of `market/specs/Sizes.antt`.
 use mathlib.Core.Path.{_≡_}
 use Prim.Native.Nat.{ℕ, _+_, _*_, _<_, _≤_}
 use lib.IntN.{ℤ, natAbs}
@@ -9,42 +10,57 @@ use Rattle.market.specs.declared.Millicents.{Millicents}
 use Rattle.market.specs.declared.Step.{Step}
 use Rattle.market.specs.declared.OfferSteps.{OfferSteps}
 use Rattle.market.specs.declared.ZoneRequirements.{ZoneRequirements}
+use Rattle.market.specs.Case.{energySteps, curveSteps}
+use Rattle.market.specs.CaseCheck.{mostZones, mostFlowgates}
+use Rattle.market.specs.UpperBounds.{Service, energy, regulation, contingency, onLineShortTerm, offLineShortTerm}
+use Rattle.market.specs.Rows.{maxWithReserve, maxWithShortTerm, minimum, high, low}
+use Rattle.market.specs.Sizes.{mostPower, mostCents, mostDemand, mostCurveWidth, mostZoneRequirement, mostFlowgateLimit, mostLimit, mostPrice, mostServiceNet, mostCurveNet}
 use Rattle.records.specs.Ranged.{offerStep}
 use Rattle.limits.specs.declared.ReserveBounds.{ReserveBounds}
 use Rattle.limits.specs.declared.ResourceLimits.{ResourceLimits}
-use Rattle.nets.specs.Sizes.{mostPrice, SmallOffer}
+use Rattle.nets.specs.Sizes.{SmallOffer, SmallPrice}
 use Rattle.bounds.specs.Terms.{required}
 
--- ---- how large they can be, in grains; widths and limits in kW
--- a net price, in thousandths of a cent
-abbrev pub mostNet : ℕ
-mostNet = 23 * mostPrice
-
+-- ---- how large they can be, in grains: row price × right side
+-- the four rows of a zone
 abbrev pub mostZoneTerms : ℕ
-mostZoneTerms = 4 * (mostPrice * 2000000)
+mostZoneTerms = 4 * (mostPrice * mostZoneRequirement)
 
+-- a flowgate's price is in cents, its limit in thousandths of a kW
 abbrev pub mostFlowgateTerm : ℕ
-mostFlowgateTerm = mostPrice * 20000000
+mostFlowgateTerm = mostCents * (1000 * mostFlowgateLimit)
 
--- of the five rows of a resource, HI is up to 4,000,000 kW
+-- the five rows of a resource
 abbrev pub mostLimitTerms : ℕ
-mostLimitTerms = mostPrice * (4 * 2000000 + 4000000)
+mostLimitTerms = mostPrice * (mostLimit maxWithReserve + mostLimit maxWithShortTerm + mostLimit minimum + mostLimit high + mostLimit low)
 
+-- row 1, zones and flowgates
 abbrev pub mostCommonTerms : ℕ
-mostCommonTerms = mostPrice * 128000000 + 8 * mostZoneTerms + 16 * mostFlowgateTerm
+mostCommonTerms = mostPrice * mostDemand + mostZones * mostZoneTerms + mostFlowgates * mostFlowgateTerm
 
--- the steps of a resource have no more than 2,000,000 kW together, each reserve too
-abbrev pub mostService : ℕ
-mostService = mostNet * 2000000
+-- ---- net price × upper bound
+-- of a resource, service by service: its energy steps together have no more than each reserve
+abbrev pub mostServiceTerm : Service → ℕ
+mostServiceTerm s = mostServiceNet s * mostPower
+
+abbrev pub mostReserveTerms : ℕ
+mostReserveTerms = mostServiceTerm regulation + mostServiceTerm contingency + mostServiceTerm onLineShortTerm + mostServiceTerm offLineShortTerm
 
 abbrev pub mostLeastTerms : ℕ
-mostLeastTerms = 5 * mostService
+mostLeastTerms = mostServiceTerm energy + mostReserveTerms
 
 abbrev pub mostResourceTerms : ℕ
 mostResourceTerms = mostLimitTerms + mostLeastTerms
 
-abbrev pub mostCurveStep : ℕ
-mostCurveStep = mostNet * 8000000
+-- of a step of a curve, of a curve, of the four
+abbrev pub mostCurveStepTerm : ℕ
+mostCurveStepTerm = mostCurveNet * mostCurveWidth
+
+abbrev pub mostCurveTerms : ℕ
+mostCurveTerms = curveSteps * mostCurveStepTerm
+
+abbrev pub mostCurvesTerms : ℕ
+mostCurvesTerms = 4 * mostCurveTerms
 
 -- ---- figures
 -- g is v grains, and no more than `most`
@@ -52,36 +68,32 @@ pub record Figure (g : Grains) (v : ℤ) (most : ℕ) : Type 0 where
   pub is : g .0 ≡ v
   pub size : natAbs (g .0) ≤ most
 
--- the price of a row, and its right side
+-- the price of a row, and its right side in kW: of these, demand is the largest
 pub record RowRoom (price : Millicents) (side : Kw) : Type 0 where
-  pub row-price : natAbs (price .0) ≤ mostPrice
-  pub right-side : natAbs (side .0) ≤ 128000000
-
--- a net price, and an upper bound
-pub record LeastRoom (net : Millicents) (upper : Kw) : Type 0 where
-  pub net-price : natAbs (net .0) ≤ mostNet
-  pub upper-bound : natAbs (upper .0) ≤ 8000000
+  pub row-price : SmallPrice price
+  pub right-side : natAbs (side .0) ≤ mostDemand
 
 pub record SmallRequirements (n : ZoneRequirements) : Type 0 where
-  pub operating : natAbs (required n 0) ≤ 2000000
-  pub regulating-plus-spinning : natAbs (required n 1) ≤ 2000000
-  pub regulating : natAbs (required n 2) ≤ 2000000
-  pub short-term : natAbs (required n 3) ≤ 2000000
+  pub operating : natAbs (required n 0) ≤ mostZoneRequirement
+  pub regulating-plus-spinning : natAbs (required n 1) ≤ mostZoneRequirement
+  pub regulating : natAbs (required n 2) ≤ mostZoneRequirement
+  pub short-term : natAbs (required n 3) ≤ mostZoneRequirement
 
 pub record SmallLimits (l : ResourceLimits) : Type 0 where
-  pub max : natAbs (l .max .0) ≤ 2000000
-  pub min : natAbs (l .min .0) ≤ 2000000
-  pub high : natAbs (l .high .0) ≤ 4000000
-  pub low : natAbs (l .low .0) ≤ 2000000
+  pub max : natAbs (l .max .0) ≤ mostLimit maxWithReserve
+  pub min : natAbs (l .min .0) ≤ mostLimit minimum
+  pub high : natAbs (l .high .0) ≤ mostLimit high
+  pub low : natAbs (l .low .0) ≤ mostLimit low
 
 pub record SmallBounds (u : ReserveBounds) : Type 0 where
-  pub regulation : natAbs (u .regulation .0) ≤ 2000000
-  pub contingency : natAbs (u .contingency .0) ≤ 2000000
-  pub on-line-short-term : natAbs (u .«on_line_short_term» .0) ≤ 2000000
-  pub off-line-short-term : natAbs (u .«off_line_short_term» .0) ≤ 2000000
+  pub regulation : natAbs (u .regulation .0) ≤ mostPower
+  pub contingency : natAbs (u .contingency .0) ≤ mostPower
+  pub on-line-short-term : natAbs (u .«on_line_short_term» .0) ≤ mostPower
+  pub off-line-short-term : natAbs (u .«off_line_short_term» .0) ≤ mostPower
 
-pub record SmallStep (t : Step) : Type 0 where
-  pub width : natAbs (t .width .0) ≤ 8000000
+-- a step, of a resource or of a curve, at most so wide
+pub record SmallStep (t : Step) (widest : ℕ) : Type 0 where
+  pub width : natAbs (t .width .0) ≤ widest
   pub price : SmallOffer (t .price)
 
 -- the widths of an offer's steps together are at most what a resource can produce
@@ -89,5 +101,5 @@ abbrev pub stepsWidth : OfferSteps → ℕ → ℕ
 stepsWidth o j = totalOf (λ j. natAbs (offerStep o j .width .0)) (upto j)
 
 pub record SmallSteps (o : OfferSteps) : Type 0 where
-  pub price : (j : ℕ) → j < 10 → SmallOffer (offerStep o j .price)
-  pub together : stepsWidth o 10 ≤ 2000000
+  pub price : (j : ℕ) → j < energySteps → SmallOffer (offerStep o j .price)
+  pub together : stepsWidth o energySteps ≤ mostPower

@@ -14,14 +14,17 @@ ghost use Rattle.market.specs.Cost.{curvePriced};
 ghost use Rattle.market.specs.Bound.{bound};
 ghost use Rattle.market.specs.Outcome.{Valid};
 ghost use Rattle.market.specs.Records.{grains, recordOf};
+ghost use Rattle.market.specs.CaseCheck.{mostResources, mostZones, mostFlowgates};
+ghost use Rattle.market.specs.UpperBounds.{energy};
+ghost use Rattle.market.specs.Sizes.{mostPower, mostCurveWidth, mostPrice, mostServiceNet};
 ghost use Rattle.records.specs.Places.{HeadIn};
 ghost use Rattle.records.specs.Ranged.{Ranged, RangedCurve, offerStep, curveStep};
 ghost use Rattle.limits.specs.Together.{reserveBoundsOf};
-ghost use Rattle.units.specs.Room.{SumRoom};
+ghost use Rattle.units.specs.Room.{SumRoom, ProductRoom};
 ghost use Rattle.prices.specs.Standing.{PricesStand, Standing};
 ghost use Rattle.prices.specs.ZonePrices.{SmallPrices};
-ghost use Rattle.nets.specs.Sizes.{mostPrice, SmallNets, SmallLimitPrices};
-ghost use Rattle.bounds.specs.Sizes.{mostNet, mostZoneTerms, mostFlowgateTerm, mostCommonTerms, mostLimitTerms, mostService, mostLeastTerms, mostResourceTerms, mostCurveStep, Figure, RowRoom, LeastRoom, SmallRequirements, SmallLimits, SmallBounds, SmallStep, SmallSteps};
+ghost use Rattle.nets.specs.Sizes.{SmallPrice, SmallNets, SmallLimitPrices};
+ghost use Rattle.bounds.specs.Sizes.{mostZoneTerms, mostFlowgateTerm, mostCommonTerms, mostLimitTerms, mostServiceTerm, mostReserveTerms, mostLeastTerms, mostResourceTerms, mostCurveStepTerm, mostCurveTerms, mostCurvesTerms, Figure, RowRoom, SmallRequirements, SmallLimits, SmallBounds, SmallStep, SmallSteps};
 ghost use Rattle.bounds.specs.Terms.{rowTerm, pricedTerm, zoneTerms, flowgateTerm, leastTerms, resourceTerms, zoneValue, limitValue, leastOf, stepBound, stepLeast, reservesLeast, curveStepLeast};
 use limits::ReserveBounds;
 use limits::ResourceLimits;
@@ -64,8 +67,8 @@ fn worth(price: Millicents, side: Kw) -> Grains
 
 // The least that a quantity between 0 and its upper bound adds at its net price.
 pub fn least_of(net: Millicents, upper: Kw) -> Grains
-    requires { ⌜ LeastRoom net upper ⌝ }
-    ensures { λ g. ⌜ Figure g (leastOf (net .0) (upper .0)) (mostNet * natAbs (upper .0)) ⌝ }
+    requires { ⌜ ProductRoom (net .0) (upper .0) ⌝ }
+    ensures { λ g. ⌜ Figure g (leastOf (net .0) (upper .0)) (natAbs (net .0) * natAbs (upper .0)) ⌝ }
 {
     let whole = units::value(net, upper);
     units::negative_part(whole)
@@ -97,7 +100,7 @@ fn zone_terms(b: &[u8], q: &[u8], r: usize, z: usize, f: usize, zone: usize) -> 
 
 fn zones_sum(b: &[u8], q: &[u8], r: usize, z: usize, f: usize) -> Grains
     requires { ⌜ PricesStand (now b) (now q) r z f ⌝ }
-    ensures { λ g. ⌜ Figure g (sumOf (zoneTerms (now (b .entry)) (now (q .entry))) (upto z)) (8 * mostZoneTerms) ⌝ }
+    ensures { λ g. ⌜ Figure g (sumOf (zoneTerms (now (b .entry)) (now (q .entry))) (upto z)) (mostZones * mostZoneTerms) ⌝ }
 {
     let mut sum = Grains(0);
     let mut y: usize = 0;
@@ -125,7 +128,7 @@ fn flowgate_term(b: &[u8], q: &[u8], r: usize, z: usize, f: usize, flowgate: usi
 
 fn flowgates_sum(b: &[u8], q: &[u8], r: usize, z: usize, f: usize) -> Grains
     requires { ⌜ PricesStand (now b) (now q) r z f ⌝ }
-    ensures { λ g. ⌜ Figure g (sumOf (flowgateTerm (now (b .entry)) (now (q .entry))) (upto f)) (16 * mostFlowgateTerm) ⌝ }
+    ensures { λ g. ⌜ Figure g (sumOf (flowgateTerm (now (b .entry)) (now (q .entry))) (upto f)) (mostFlowgates * mostFlowgateTerm) ⌝ }
 {
     let mut sum = Grains(0);
     let mut y: usize = 0;
@@ -184,8 +187,8 @@ pub fn step_bound(on: bool, width: Kw) -> Kw
 }
 
 fn step_least(prices: Nets, on: bool, step: Step) -> Grains
-    requires { ⌜ SmallNets prices × SmallStep step ⌝ }
-    ensures { λ g. ⌜ Figure g (stepLeast prices on step) (mostNet * natAbs (step .width .0)) ⌝ }
+    requires { ⌜ SmallNets prices × SmallStep step mostPower ⌝ }
+    ensures { λ g. ⌜ Figure g (stepLeast prices on step) (mostServiceNet energy * natAbs (step .width .0)) ⌝ }
 {
     let net = nets::step_net(prices, step.price);
     let upper = step_bound(on, step.width);
@@ -194,7 +197,7 @@ fn step_least(prices: Nets, on: bool, step: Step) -> Grains
 
 fn steps_least(prices: Nets, on: bool, steps: OfferSteps) -> Grains
     requires { ⌜ SmallNets prices × SmallSteps steps ⌝ }
-    ensures { λ g. ⌜ Figure g (sumOf (λ j. stepLeast prices on (offerStep steps j)) (upto 10)) mostService ⌝ }
+    ensures { λ g. ⌜ Figure g (sumOf (λ j. stepLeast prices on (offerStep steps j)) (upto 10)) (mostServiceTerm energy) ⌝ }
 {
     let mut sum = Grains(0);
     let mut j: usize = 0;
@@ -227,7 +230,7 @@ pub fn reserve_bounds(
 
 fn reserves_least(prices: Nets, uppers: ReserveBounds) -> Grains
     requires { ⌜ SmallNets prices × SmallBounds uppers ⌝ }
-    ensures { λ g. ⌜ Figure g (reservesLeast prices uppers) (4 * mostService) ⌝ }
+    ensures { λ g. ⌜ Figure g (reservesLeast prices uppers) mostReserveTerms ⌝ }
 {
     let regulation = least_of(prices.regulation, uppers.regulation);
     let contingency = least_of(prices.contingency, uppers.contingency);
@@ -275,7 +278,7 @@ fn resource_terms(b: &[u8], q: &[u8], r: usize, z: usize, f: usize, i: usize) ->
 
 fn resources_sum(b: &[u8], q: &[u8], r: usize, z: usize, f: usize) -> Grains
     requires { ⌜ PricesStand (now b) (now q) r z f ⌝ }
-    ensures { λ g. ⌜ Figure g (sumOf (resourceTerms (now (b .entry)) (now (q .entry))) (upto r)) (64 * mostResourceTerms) ⌝ }
+    ensures { λ g. ⌜ Figure g (sumOf (resourceTerms (now (b .entry)) (now (q .entry))) (upto r)) (mostResources * mostResourceTerms) ⌝ }
 {
     let mut sum = Grains(0);
     let mut i: usize = 0;
@@ -291,16 +294,16 @@ fn resources_sum(b: &[u8], q: &[u8], r: usize, z: usize, f: usize) -> Grains
 
 // Of a curve whose market row has the price.
 fn curve_step_least(price: Millicents, step: Step) -> Grains
-    requires { ⌜ (natAbs (price .0) ≤ mostPrice) × SmallStep step ⌝ }
-    ensures { λ g. ⌜ Figure g (curveStepLeast price step) mostCurveStep ⌝ }
+    requires { ⌜ SmallPrice price × SmallStep step mostCurveWidth ⌝ }
+    ensures { λ g. ⌜ Figure g (curveStepLeast price step) mostCurveStepTerm ⌝ }
 {
     let net = nets::curve_net(price, step.price);
     least_of(net, step.width)
 }
 
 fn curve_least(price: Millicents, curve: CurveSteps) -> Grains
-    requires { ⌜ (natAbs (price .0) ≤ mostPrice) × RangedCurve curve ⌝ }
-    ensures { λ g. ⌜ Figure g (sumOf (λ j. curveStepLeast price (curveStep curve j)) (upto 4)) (4 * mostCurveStep) ⌝ }
+    requires { ⌜ SmallPrice price × RangedCurve curve ⌝ }
+    ensures { λ g. ⌜ Figure g (sumOf (λ j. curveStepLeast price (curveStep curve j)) (upto 4)) mostCurveTerms ⌝ }
 {
     let mut sum = Grains(0);
     let mut j: usize = 0;
@@ -315,7 +318,7 @@ fn curve_least(price: Millicents, curve: CurveSteps) -> Grains
 
 fn curves_least(b: &[u8], q: &[u8], r: usize, z: usize, f: usize) -> Grains
     requires { ⌜ PricesStand (now b) (now q) r z f ⌝ }
-    ensures { λ g. ⌜ Figure g (sumOf (pricedTerm (now (b .entry)) (now (q .entry))) (across curvePriced curves)) (16 * mostCurveStep) ⌝ }
+    ensures { λ g. ⌜ Figure g (sumOf (pricedTerm (now (b .entry)) (now (q .entry))) (across curvePriced curves)) mostCurvesTerms ⌝ }
 {
     let prices = entries::market_prices(q, r, z, f);
     let operating = curve_least(prices.operating, readers::curve_at(b, r, z, f, 0));

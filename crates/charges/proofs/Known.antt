@@ -17,13 +17,14 @@ use Rattle.market.specs.Rows.{Market, rows}
 use Rattle.market.specs.Certificate.{Prices, certificateOf}
 use Rattle.market.specs.Cost.{curvePriced, priced}
 use Rattle.market.specs.Charges.{rowCharge, pricedCharge, charges, chargeCount}
+use Rattle.market.specs.Sizes.{mostPower}
 use Rattle.market.specs.Records.{power, millicents, offerStepsOf, amountsOf, curveStepsOf}
 use Rattle.market.specs.declared.Amounts.{Amounts}
 use Rattle.market.specs.declared.Kw.{Kw}
 use Rattle.market.specs.declared.Millicents.{Millicents}
 use Rattle.market.specs.declared.OfferSteps.{OfferSteps}
 use Rattle.market.proofs.Lengths.{row-count}
-use Rattle.market.proofs.SumsFit.{amount-of}
+use Rattle.market.proofs.ScheduleSizes.{amount-of}
 use Rattle.records.proofs.Places.{resources-is, zones-is, flowgates-is}
 use Rattle.prices.specs.Standing.{Standing}
 use Rattle.prices.proofs.Known.{case-ranges, prices-in-range, resource-below}
@@ -34,7 +35,7 @@ use Rattle.nets.proofs.Known.{nets-small}
 use Rattle.limits.specs.declared.ReserveBounds.{ReserveBounds}
 use Rattle.bounds.specs.Sizes.{SmallBounds}
 use Rattle.limits.specs.Together.{reserveBoundsOf}
-use Rattle.bounds.proofs.PricedTerms.{bounds-small}
+use Rattle.bounds.proofs.PricedSizes.{bounds-small}
 use Rattle.costs.proofs.Known.{steps-known, energy-known, curve-known, cleared-known}
 use Rattle.charges.specs.declared.ClearedCurve.{ClearedCurve}
 use Rattle.charges.specs.Sizes.{StepsRoom, SmallReserves, ClearedRoom}
@@ -53,7 +54,7 @@ module _ {b q : List ℕ} {r z f : ℕ} (s : Standing b q r z f) where
 
   -- ---- a resource
   module _ {i : ℕ} (l : i < r) where
-    given-most : (v : Service) → x (Provided i v) ≤ 2000000
+    given-most : (v : Service) → x (Provided i v) ≤ mostPower
     given-most v = amount-of c (case-ranges (s .prices)) x (s .bounded) (Provided i v) (resource-below (s .prices) l)
 
     pub nets-fit : {n : Nets} → n ≡ netsOf c y i → SmallNets n

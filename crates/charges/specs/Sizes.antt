@@ -1,5 +1,6 @@
--- How large the figures are from which charges are made, so that each charge fits.
-use Prim.Native.Nat.{_≤_}
+-- How large the figures are from which charges are made, so that each charge fits. The figures are those of
+-- `market/specs/Sizes.antt`; here they are said of the records that the code reads.
+use Prim.Native.Nat.{ℕ, _+_, _*_, _<_, _≤_}
 use lib.IntN.{natAbs}
 use Rattle.market.specs.declared.Amounts.{Amounts}
 use Rattle.market.specs.declared.CurveSteps.{CurveSteps}
@@ -7,43 +8,42 @@ use Rattle.market.specs.declared.Kw.{Kw}
 use Rattle.market.specs.declared.Millicents.{Millicents}
 use Rattle.market.specs.declared.OfferSteps.{OfferSteps}
 use Rattle.market.specs.declared.Step.{Step}
+use Rattle.market.specs.Fits.{range64}
+use Rattle.market.specs.Sizes.{mostPower}
 use Rattle.records.specs.Ranged.{UpTo, RangedSteps, RangedCurve}
-use Rattle.nets.specs.Sizes.{mostPrice}
-use Rattle.bounds.specs.Sizes.{LeastRoom, SmallStep}
+use Rattle.units.specs.Room.{ProductRoom}
+use Rattle.nets.specs.Sizes.{SmallPrice}
+use Rattle.bounds.specs.Sizes.{SmallStep}
 use Rattle.costs.specs.Steps.{mostInSteps}
 use Rattle.charges.specs.declared.ClearedCurve.{ClearedCurve}
 
--- a net price, an amount and an upper bound
+-- a net price times an amount, times an upper bound, and both together
 pub record ChargeRoom (net : Millicents) (amount upper : Kw) : Type 0 where
-  pub least : LeastRoom net upper
-  pub part : natAbs (amount .0) ≤ 8000000
+  pub added : ProductRoom (net .0) (amount .0)
+  pub least : ProductRoom (net .0) (upper .0)
+  pub together : (natAbs (net .0) * natAbs (amount .0) + natAbs (net .0) * natAbs (upper .0)) < range64
 
 -- ---- a resource
--- a step, and what fills it
-pub record StepRoom (t : Step) (amount : Kw) : Type 0 where
-  pub step : SmallStep t
-  pub part : natAbs (amount .0) ≤ 8000000
+-- a step, at most so wide, and what fills it
+pub record StepRoom (t : Step) (amount : Kw) (widest : ℕ) : Type 0 where
+  pub step : SmallStep t widest
+  pub part : natAbs (amount .0) ≤ widest
 
 -- its offer, and its energy
 pub record StepsRoom (o : OfferSteps) (energy : Kw) : Type 0 where
   pub steps : RangedSteps o
-  pub provided : UpTo (energy .0) 2000000
+  pub provided : UpTo (energy .0) mostPower
 
 -- what it is given of its reserves
 pub record SmallReserves (a : Amounts) : Type 0 where
-  pub regulation : natAbs (a .regulation .0) ≤ 2000000
-  pub contingency : natAbs (a .contingency .0) ≤ 2000000
-  pub on-line-short-term : natAbs (a .«on_line_short_term» .0) ≤ 2000000
-  pub off-line-short-term : natAbs (a .«off_line_short_term» .0) ≤ 2000000
+  pub regulation : natAbs (a .regulation .0) ≤ mostPower
+  pub contingency : natAbs (a .contingency .0) ≤ mostPower
+  pub on-line-short-term : natAbs (a .«on_line_short_term» .0) ≤ mostPower
+  pub off-line-short-term : natAbs (a .«off_line_short_term» .0) ≤ mostPower
 
--- ---- a curve
--- the price of its market row, a step, and what fills it
-pub record CurveStepRoom (price : Millicents) (t : Step) (amount : Kw) : Type 0 where
-  pub row-price : natAbs (price .0) ≤ mostPrice
-  pub filled : StepRoom t amount
-
+-- ---- a curve: the price of its market row, its steps and its cleared quantity
 pub record CurveRoom (price : Millicents) (o : CurveSteps) (amount : Kw) : Type 0 where
-  pub row-price : natAbs (price .0) ≤ mostPrice
+  pub row-price : SmallPrice price
   pub steps : RangedCurve o
   pub cleared : UpTo (amount .0) mostInSteps
 

@@ -13,11 +13,12 @@ ghost use Rattle.market.specs.Certificate.{certificateOf};
 ghost use Rattle.market.specs.Cost.{curvePriced, priced};
 ghost use Rattle.market.specs.Charges.{pricedCharge, charges, chargeCount};
 ghost use Rattle.market.specs.Records.{grains, curveStepsOf};
+ghost use Rattle.market.specs.Sizes.{mostPower, mostCurveWidth};
 ghost use Rattle.records.specs.Places.{CurveIn};
 ghost use Rattle.prices.specs.Standing.{Standing};
-ghost use Rattle.nets.specs.Sizes.{SmallNets};
+ghost use Rattle.nets.specs.Sizes.{SmallPrice, SmallNets};
 ghost use Rattle.bounds.specs.Sizes.{SmallBounds};
-ghost use Rattle.charges.specs.Sizes.{ChargeRoom, StepRoom, StepsRoom, SmallReserves, CurveStepRoom, CurveRoom, ClearedRoom};
+ghost use Rattle.charges.specs.Sizes.{ChargeRoom, StepRoom, StepsRoom, SmallReserves, CurveRoom, ClearedRoom};
 ghost use Rattle.charges.specs.Terms.{chargeIn, resourceCharges, chargeOf, stepCharge, energyCharge, reserveCharges, curveStepCharge, curveCharge, clearedCurve, curveCharges};
 use limits::ReserveBounds;
 use market::Amounts;
@@ -43,7 +44,7 @@ fn quantity_charge(net: Millicents, amount: Kw, upper: Kw) -> Grains
 
 // Of an energy step, by what fills it.
 fn step_charge(prices: Nets, on: bool, step: Step, part: Kw) -> Grains
-    requires { ⌜ SmallNets prices × StepRoom step part ⌝ }
+    requires { ⌜ SmallNets prices × StepRoom step part mostPower ⌝ }
     ensures { λ g. ⌜ g ≡ grains (stepCharge prices on step (part .0)) ⌝ }
 {
     let net = nets::step_net(prices, step.price);
@@ -129,7 +130,7 @@ fn write_resources(b: &[u8], q: &[u8], r: usize, z: usize, f: usize, out: &mut [
 
 // Of a step of a curve whose market row has the price, by what fills it.
 fn curve_step_charge(price: Millicents, step: Step, part: Kw) -> Grains
-    requires { ⌜ CurveStepRoom price step part ⌝ }
+    requires { ⌜ SmallPrice price × StepRoom step part mostCurveWidth ⌝ }
     ensures { λ g. ⌜ g ≡ grains (curveStepCharge price step (part .0)) ⌝ }
 {
     let net = nets::curve_net(price, step.price);

@@ -13,7 +13,7 @@ use Rattle.market.specs.UpperBounds.{Schedule, Service, Provided, Cleared, ener
 use Rattle.market.specs.Certificate.{certificateOf}
 use Rattle.market.specs.Records.{recordOf, offerStepsOf, curveStepsOf, amountsOf}
 use Rattle.market.specs.Fits.{Fits64}
-use Rattle.market.proofs.SumsFit.{amount-of}
+use Rattle.market.proofs.ScheduleSizes.{amount-of}
 use Rattle.records.specs.Ranged.{UpTo, Ranged, RangedSteps, RangedCurve, offerStep}
 use Rattle.records.proofs.Ranged.{valid-resource, valid-steps, curve-ranged}
 use Rattle.units.specs.Room.{SumRoom}

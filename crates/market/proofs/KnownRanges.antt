@@ -4,39 +4,10 @@ use Rattle.arith.proofs.Magnitudes.{Size}
 use Rattle.market.specs.Case.{Case, Resource, Curve, Reserve, widthOf, energySteps, curveSteps}
 use Rattle.market.specs.Rows.{Row}
 use Rattle.market.specs.Certificate.{Prices, highestPrice}
+use Rattle.market.specs.Sizes.{mostPower, mostRamp, mostCents, mostDemand, mostCurveWidth, mostZoneRequirement, mostFlowgateLimit, mostFactor}
 use Rattle.market.proofs.Families.{RowOf}
 use Rattle.market.proofs.LargestCase.{CountRanges}
 
--- ---- the ends of the ranges
--- of a resource's power and of a width of its steps, in kW
-abbrev pub mostPower : ℕ
-mostPower = 2000000
-
--- kW a minute
-abbrev pub mostRamp : ℕ
-mostRamp = 400000
-
--- of an offer and of a curve step, in cents
-abbrev pub mostCents : ℕ
-mostCents = 400000
-
-abbrev pub mostDemand : ℕ
-mostDemand = 128000000
-
-abbrev pub mostCurveWidth : ℕ
-mostCurveWidth = 8000000
-
-abbrev pub mostZoneRequirement : ℕ
-mostZoneRequirement = 2000000
-
-abbrev pub mostFlowgateLimit : ℕ
-mostFlowgateLimit = 20000000
-
--- thousandths
-abbrev pub mostFactor : ℕ
-mostFactor = 1000
-
--- ---- what is known
 pub record ReserveRanges (c : Case) (p : Reserve) : Type 0 where
   pub multiplier-from : 1 ≤ c .multiplier p
   pub multiplier-to : c .multiplier p ≤ 5000

@@ -27,7 +27,14 @@ pub mod LeastAndLargest
 pub mod AvailabilityInWords
 pub mod KnownRanges
 pub mod Ranges
-pub mod Sizes
+pub mod LimitSizes
+pub mod RowSizes
+pub mod AmountSizes
+pub mod NetPriceSizes
+pub mod LargestSums
+pub mod ScheduleSizes
+pub mod BoundSizes
+pub mod ChargeSizes
 pub mod SumsFit
 pub mod FieldBytes
 pub mod FieldLists

@@ -22,11 +22,12 @@ use Rattle.market.specs.Rows.{rows, Sense, equal, atLeast, sense, Bounde
 use Rattle.market.specs.Certificate.{Certificate, highestPrice, lowestPrice}
 use Rattle.market.specs.Refusals.{clear, firstFailing}
 use Rattle.market.specs.Outcome.{Valid, priceRight, withinBound}
+use Rattle.market.specs.Sizes.{mostPower, mostCents, mostFlowgateLimit, mostFactor}
 use Rattle.market.specs.CheckInWords.{EitherWay, ReserveWithin, ResourceWithin, PairsInOrder}
 use Rattle.market.proofs.Grounds.{none-fails}
 use Rattle.market.proofs.Families.{at-row}
 use Rattle.market.proofs.LargestCase.{CountRanges}
-pub use Rattle.market.proofs.KnownRanges.{mostPower, mostRamp, mostCents, mostDemand, mostCurveWidth, mostZoneRequirement, mostFlowgateLimit, mostFactor, ReserveRanges, ResourceRanges, CaseRanges, PriceRanges}
+pub use Rattle.market.proofs.KnownRanges.{ReserveRanges, ResourceRanges, CaseRanges, PriceRanges}
 use Rattle.market.proofs.Passed.{case-passed}
 use Rattle.market.proofs.Tests.{either-test}
 use Rattle.market.proofs.CheckInWords.{check-in-words}

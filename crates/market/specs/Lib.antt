@@ -24,6 +24,7 @@ pub mod InWords
 pub mod CheckInWords
 pub mod AvailabilityInWords
 pub mod WrongTurns
+pub mod Sizes
 pub mod Fits
 pub mod RoundTrips
 pub mod FieldsInOrder

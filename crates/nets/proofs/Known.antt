@@ -17,16 +17,17 @@ use Rattle.market.specs.Cost.{EnergyStep, Whole, quantityOf}
 use Rattle.market.specs.Bound.{netPrice}
 use Rattle.market.specs.Prices.{LMP, spinningPrice, supplementalPrice}
 use Rattle.market.specs.InWords.{isSpinning, limitPrices, Placed, NetPricesInWords}
+use Rattle.market.specs.Sizes.{mostPrice}
 use Rattle.market.specs.Records.{millicents, recordOf, stateOf, reserveOffersOf, limitPricesOf}
 use Rattle.market.proofs.NetPrices.{net-prices-in-words}
 use Rattle.market.proofs.Ranges.{CaseRanges, PriceRanges}
-use Rattle.market.proofs.Sizes.{lmp-size, regulating-size, spinning-size, supplemental-size, short-term-size, net-size}
+use Rattle.market.proofs.NetPriceSizes.{lmp-size, regulating-size, spinning-size, supplemental-size, short-term-size, net-size}
 use Rattle.records.proofs.Places.{zones-is}
 use Rattle.prices.specs.Standing.{PricesStand}
 use Rattle.prices.specs.ZonePrices.{zonePricesOf}
 use Rattle.prices.proofs.Known.{case-ranges, prices-in-range, resource-below}
 use Rattle.nets.specs.NetPrices.{netsOf, netsFrom}
-use Rattle.nets.specs.Sizes.{mostPrice, SmallOffers, SmallLimitPrices, SmallZonePrices, SmallLmp, SmallNets}
+use Rattle.nets.specs.Sizes.{SmallOffers, SmallLimitPrices, SmallZonePrices, SmallLmp, SmallNets}
 
 -- by a test, of prices and of what they are
 chosen : (t : Bool) (a b : ℤ) → cond t (millicents a) (millicents b) .0 ≡ cond t a b

@@ -10,9 +10,12 @@ ghost use Rattle.market.specs.CaseFile.{caseOf};
 ghost use Rattle.market.specs.Certificate.{certificateOf};
 ghost use Rattle.market.specs.InWords.{isSpinning};
 ghost use Rattle.market.specs.Records.{recordOf, millicents};
+ghost use Rattle.market.specs.Sizes.{mostPrice, mostServiceNet, mostCurveNet};
+ghost use Rattle.market.specs.UpperBounds.{energy};
+ghost use Rattle.units.specs.Room.{SumRoom};
 ghost use Rattle.prices.specs.Standing.{PricesStand};
 ghost use Rattle.nets.specs.NetPrices.{netsOf, netsFrom, ownRows, reserveNet};
-ghost use Rattle.nets.specs.Sizes.{mostPrice, Price, SmallOffer, Addable, SmallOffers, SmallLimitPrices, SmallZonePrices, SmallLmp, SmallNets, SmallAgainst};
+ghost use Rattle.nets.specs.Sizes.{Price, SmallOffer, SmallPrice, SmallOffers, SmallLimitPrices, SmallZonePrices, SmallLmp, SmallNets, NetRoom};
 use market::Cents;
 use market::LimitPrices;
 use market::Millicents;
@@ -32,14 +35,14 @@ pub struct Nets {
 // ---- sums of prices, with how large they can be
 
 fn plus(a: Millicents, b: Millicents) -> Millicents
-    requires { ⌜ Addable a × Addable b ⌝ }
+    requires { ⌜ SumRoom (a .0) (b .0) ⌝ }
     ensures { λ m. ⌜ Price m (a .0 +ℤ b .0) (natAbs (a .0) + natAbs (b .0)) ⌝ }
 {
     units::price_sum(a, b)
 }
 
 fn minus(a: Millicents, b: Millicents) -> Millicents
-    requires { ⌜ Addable a × Addable b ⌝ }
+    requires { ⌜ SumRoom (a .0) (b .0) ⌝ }
     ensures { λ m. ⌜ Price m (a .0 -ℤ b .0) (natAbs (a .0) + natAbs (b .0)) ⌝ }
 {
     units::price_difference(a, b)
@@ -58,7 +61,7 @@ fn asked(offer: Cents) -> Millicents
 // Of a resource's energy, at the step's offer.
 pub fn step_net(nets: Nets, offer: Cents) -> Millicents
     requires { ⌜ SmallNets nets × SmallOffer offer ⌝ }
-    ensures { λ m. ⌜ Price m (pos 1000 *ℤ offer .0 +ℤ nets .energy .0) (23 * mostPrice) ⌝ }
+    ensures { λ m. ⌜ Price m (pos 1000 *ℤ offer .0 +ℤ nets .energy .0) (mostServiceNet energy) ⌝ }
 {
     let offered = asked(offer);
     plus(offered, nets.energy)
@@ -66,8 +69,8 @@ pub fn step_net(nets: Nets, offer: Cents) -> Millicents
 
 // Of a demand curve, whose market row has the price.
 pub fn curve_net(price: Millicents, offer: Cents) -> Millicents
-    requires { ⌜ Addable price × SmallOffer offer ⌝ }
-    ensures { λ m. ⌜ Price m (price .0 -ℤ pos 1000 *ℤ offer .0) (natAbs (price .0) + mostPrice) ⌝ }
+    requires { ⌜ SmallPrice price × SmallOffer offer ⌝ }
+    ensures { λ m. ⌜ Price m (price .0 -ℤ pos 1000 *ℤ offer .0) mostCurveNet ⌝ }
 {
     let offered = asked(offer);
     minus(price, offered)
@@ -89,7 +92,7 @@ fn energy_net(own: LimitPrices, lmp: Millicents) -> Millicents
 
 // An offer against a price, with what the resource's own rows ask.
 fn reserve_net(offer: Cents, price: Millicents, own: Millicents) -> Millicents
-    requires { ⌜ SmallOffer offer × SmallAgainst price own ⌝ }
+    requires { ⌜ SmallOffer offer × NetRoom price own ⌝ }
     ensures { λ m. ⌜ m ≡ millicents (reserveNet (offer .0) (price .0) (own .0)) ⌝ }
 {
     let offered = asked(offer);

@@ -32,7 +32,9 @@ use Rattle.market.proofs.Accepted.{demand3}
 use Rattle.market.proofs.LentBuffer.{first-then, first-stays, refused-before, too-short, long-enough}
 use Rattle.market.proofs.Lengths.{charge-count, price-count}
 use Rattle.market.proofs.Ranges.{valid-ranges, price-ranges}
-use Rattle.market.proofs.SumsFit.{cost-size, bound-size, sums-fit-in-ranges}
+use Rattle.market.proofs.ScheduleSizes.{cost-size}
+use Rattle.market.proofs.BoundSizes.{bound-size}
+use Rattle.market.proofs.SumsFit.{sums-fit-in-ranges}
 use Rattle.cases.specs.declared.Stage.{Stage}
 use Rattle.cases.specs.declared.Stage.the-variants.{Passed, Refused}
 use Rattle.cases.specs.Stages.{stageOf}

@@ -16,7 +16,7 @@ use Rattle.market.specs.InWords.{isSpinning, kwOf, reserveOf, reserveInZone}
 use Rattle.market.specs.Records.{kw, stateOf, amountsOf, curveAmountsOf}
 use Rattle.market.specs.declared.State.{State}
 use Rattle.market.proofs.Families.{at-quantity}
-use Rattle.market.proofs.Sizes.{amount-most}
+use Rattle.market.proofs.AmountSizes.{amount-most}
 use Rattle.prices.specs.Standing.{Standing}
 use Rattle.prices.proofs.Known.{case-ranges, resource-below}
 use Rattle.reserves.specs.Given.{SmallAmounts, givenBy}

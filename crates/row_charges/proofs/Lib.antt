@@ -1,2 +1,3 @@
-pub mod Known
+pub mod FromRecords
+pub mod Fit
 pub mod Written

@@ -16,11 +16,11 @@ use Rattle.units.specs.Room.{SumRoom, ProductRoom}
 use Rattle.reserves.specs.Given.{SmallAmounts}
 
 -- a row's charge, of the case in b and the certificate in q
-abbrev pub chargeOf : List ℕ → List ℕ → Row → ℤ
-chargeOf b q = rowCharge (caseOf b) (certificateOf q .amount) (certificateOf q .price)
+abbrev pub rowChargeIn : List ℕ → List ℕ → Row → ℤ
+rowChargeIn b q = rowCharge (caseOf b) (certificateOf q .amount) (certificateOf q .price)
 
 -- a row's price, and the sides whose difference is its slack
-pub record ChargeRoom (price more less : ℤ) : Type 0 where
+pub record RowChargeRoom (price more less : ℤ) : Type 0 where
   pub sides : SumRoom more less
   pub product : ProductRoom price (more -ℤ less)
 
@@ -34,10 +34,10 @@ fourCharges p have need =
     ∷ []
 
 pub record FourRoom (p : ReservePrices) (have need : CurveAmounts) : Type 0 where
-  pub operating : ChargeRoom (p .operating .0) (have .operating .0) (need .operating .0)
-  pub regulating-plus-spinning : ChargeRoom (p .«regulating_plus_spinning» .0) (have .«regulating_plus_spinning» .0) (need .«regulating_plus_spinning» .0)
-  pub regulating : ChargeRoom (p .regulating .0) (have .regulating .0) (need .regulating .0)
-  pub short-term : ChargeRoom (p .«short_term» .0) (have .«short_term» .0) (need .«short_term» .0)
+  pub operating : RowChargeRoom (p .operating .0) (have .operating .0) (need .operating .0)
+  pub regulating-plus-spinning : RowChargeRoom (p .«regulating_plus_spinning» .0) (have .«regulating_plus_spinning» .0) (need .«regulating_plus_spinning» .0)
+  pub regulating : RowChargeRoom (p .regulating .0) (have .regulating .0) (need .regulating .0)
+  pub short-term : RowChargeRoom (p .«short_term» .0) (have .«short_term» .0) (need .«short_term» .0)
 
 -- ---- the five rows of a resource: e+g+c ≤ MAX, e+s ≤ MAX, e-g ≥ MIN, e ≤ HI, e ≥ LO
 abbrev pub fiveCharges : LimitPrices → Amounts → ResourceLimits → List ℤ
@@ -51,8 +51,8 @@ fiveCharges p a l =
 
 pub record FiveRoom (p : LimitPrices) (a : Amounts) (l : ResourceLimits) : Type 0 where
   pub amounts : SmallAmounts a
-  pub max-with-reserve : ChargeRoom (p .«max_with_reserve» .0) (l .max .0) (a .energy .0 +ℤ a .regulation .0 +ℤ a .contingency .0)
-  pub max-with-short-term : ChargeRoom (p .«max_with_short_term» .0) (l .max .0) (a .energy .0 +ℤ a .«on_line_short_term» .0)
-  pub minimum : ChargeRoom (p .minimum .0) (a .energy .0 -ℤ a .regulation .0) (l .min .0)
-  pub high : ChargeRoom (p .high .0) (l .high .0) (a .energy .0)
-  pub low : ChargeRoom (p .low .0) (a .energy .0) (l .low .0)
+  pub max-with-reserve : RowChargeRoom (p .«max_with_reserve» .0) (l .max .0) (a .energy .0 +ℤ a .regulation .0 +ℤ a .contingency .0)
+  pub max-with-short-term : RowChargeRoom (p .«max_with_short_term» .0) (l .max .0) (a .energy .0 +ℤ a .«on_line_short_term» .0)
+  pub minimum : RowChargeRoom (p .minimum .0) (a .energy .0 -ℤ a .regulation .0) (l .min .0)
+  pub high : RowChargeRoom (p .high .0) (l .high .0) (a .energy .0)
+  pub low : RowChargeRoom (p .low .0) (a .energy .0) (l .low .0)

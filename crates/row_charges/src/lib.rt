@@ -14,7 +14,7 @@ ghost use Rattle.market.specs.Charges.{rowCharge};
 ghost use Rattle.market.specs.Records.{grains};
 ghost use Rattle.prices.specs.Standing.{Standing};
 ghost use Rattle.reserves.specs.Given.{marketTotal, zoneTotal, zoneTotals};
-ghost use Rattle.row_charges.specs.Families.{ChargeRoom, FourRoom, FiveRoom, chargeOf, fourCharges, fiveCharges};
+ghost use Rattle.row_charges.specs.Families.{RowChargeRoom, FourRoom, FiveRoom, rowChargeIn, fourCharges, fiveCharges};
 use limits::ResourceLimits;
 use market::Amounts;
 use market::CurveAmounts;
@@ -26,7 +26,7 @@ use market::ReservePrices;
 
 // The price of a row times its slack, which is one side less the other.
 fn charge(price: Millicents, more: Kw, less: Kw) -> Grains
-    requires { ⌜ ChargeRoom (price .0) (more .0) (less .0) ⌝ }
+    requires { ⌜ RowChargeRoom (price .0) (more .0) (less .0) ⌝ }
     ensures { λ v. ⌜ v ≡ grains (price .0 *ℤ (more .0 -ℤ less .0)) ⌝ }
 {
     let slack = units::kw_difference(more, less);
@@ -38,7 +38,7 @@ fn charge(price: Millicents, more: Kw, less: Kw) -> Grains
 // Energy less demand.
 fn write_balance(b: &[u8], q: &[u8], r: usize, z: usize, f: usize, out: &mut [i64])
     requires { ⌜ Standing (now b) (now q) r z f × (1 ≤ length (now out)) ⌝ }
-    ensures { λ _. ⌜ now (out .exit) ≡ map (chargeOf (now (b .entry)) (now (q .entry))) (Balance ∷ []) ++ drop 1 (now (out .entry)) ⌝ }
+    ensures { λ _. ⌜ now (out .exit) ≡ map (rowChargeIn (now (b .entry)) (now (q .entry))) (Balance ∷ []) ++ drop 1 (now (out .entry)) ⌝ }
 {
     let price = entries::balance_price(q, r, z, f);
     let total = rows::energy_total(q, r, z, f);
@@ -83,7 +83,7 @@ fn write_market(
 )
     requires { ⌜ Standing (now b) (now q) r z f × (4 ≤ length (now out)) ⌝ }
     requires { ⌜ have ≡ marketTotal (now b) (now q) r ⌝ }
-    ensures { λ _. ⌜ now (out .exit) ≡ map (chargeOf (now (b .entry)) (now (q .entry))) marketRows ++ drop 4 (now (out .entry)) ⌝ }
+    ensures { λ _. ⌜ now (out .exit) ≡ map (rowChargeIn (now (b .entry)) (now (q .entry))) marketRows ++ drop 4 (now (out .entry)) ⌝ }
 {
     let prices = entries::market_prices(q, r, z, f);
     let need = entries::cleared(q, r, z, f);
@@ -102,7 +102,7 @@ fn write_system(
 )
     requires { ⌜ Standing (now b) (now q) r z f × (5 ≤ length (now out)) ⌝ }
     requires { ⌜ have ≡ marketTotal (now b) (now q) r ⌝ }
-    ensures { λ _. ⌜ now (out .exit) ≡ map (chargeOf (now (b .entry)) (now (q .entry))) (Balance ∷ marketRows) ++ drop 5 (now (out .entry)) ⌝ }
+    ensures { λ _. ⌜ now (out .exit) ≡ map (rowChargeIn (now (b .entry)) (now (q .entry))) (Balance ∷ marketRows) ++ drop 5 (now (out .entry)) ⌝ }
 {
     write_balance(b, q, r, z, f, out);
     write_market(b, q, r, z, f, have, &mut out[1..]);
@@ -123,7 +123,7 @@ fn write_zone(
 )
     requires { ⌜ Standing (now b) (now q) r z f × ((zone < z) × (4 ≤ length (now out))) ⌝ }
     requires { ⌜ have ≡ zoneTotal (now b) (now q) r zone ⌝ }
-    ensures { λ _. ⌜ now (out .exit) ≡ map (chargeOf (now (b .entry)) (now (q .entry))) (map (Zone zone) curves) ++ drop 4 (now (out .entry)) ⌝ }
+    ensures { λ _. ⌜ now (out .exit) ≡ map (rowChargeIn (now (b .entry)) (now (q .entry))) (map (Zone zone) curves) ++ drop 4 (now (out .entry)) ⌝ }
 {
     let prices = entries::zone_prices_at(q, r, z, f, zone);
     let need = rows::required(b, r, z, f, zone);
@@ -142,7 +142,7 @@ fn write_zones(
 )
     requires { ⌜ Standing (now b) (now q) r z f × (z * 4 ≤ length (now out)) ⌝ }
     requires { ⌜ have ≡ zoneTotals (now b) (now q) r ⌝ }
-    ensures { λ _. ⌜ now (out .exit) ≡ map (chargeOf (now (b .entry)) (now (q .entry))) (zoneRows (caseOf (now (b .entry)))) ++ drop (z * 4) (now (out .entry)) ⌝ }
+    ensures { λ _. ⌜ now (out .exit) ≡ map (rowChargeIn (now (b .entry)) (now (q .entry))) (zoneRows (caseOf (now (b .entry)))) ++ drop (z * 4) (now (out .entry)) ⌝ }
 {
     let mut zone: usize = 0;
     let mut at: usize = 0;
@@ -158,7 +158,7 @@ fn write_zones(
 // The limit less the flow.
 fn flowgate_charge(b: &[u8], q: &[u8], r: usize, z: usize, f: usize, g: usize) -> Grains
     requires { ⌜ Standing (now b) (now q) r z f × (g < f) ⌝ }
-    ensures { λ v. ⌜ v ≡ grains (chargeOf (now (b .entry)) (now (q .entry)) (Flowgate g)) ⌝ }
+    ensures { λ v. ⌜ v ≡ grains (rowChargeIn (now (b .entry)) (now (q .entry)) (Flowgate g)) ⌝ }
 {
     let price = entries::flowgate_price_at(q, r, z, f, g);
     let flows = rows::flow(b, q, r, z, f, g);
@@ -170,7 +170,7 @@ fn flowgate_charge(b: &[u8], q: &[u8], r: usize, z: usize, f: usize, g: usize) -
 
 fn write_flowgates(b: &[u8], q: &[u8], r: usize, z: usize, f: usize, out: &mut [i64])
     requires { ⌜ Standing (now b) (now q) r z f × (f ≤ length (now out)) ⌝ }
-    ensures { λ _. ⌜ now (out .exit) ≡ map (chargeOf (now (b .entry)) (now (q .entry))) (flowgateRows (caseOf (now (b .entry)))) ++ drop f (now (out .entry)) ⌝ }
+    ensures { λ _. ⌜ now (out .exit) ≡ map (rowChargeIn (now (b .entry)) (now (q .entry))) (flowgateRows (caseOf (now (b .entry)))) ++ drop f (now (out .entry)) ⌝ }
 {
     let mut g: usize = 0;
     while g < f {
@@ -211,7 +211,7 @@ fn write_five(prices: LimitPrices, a: Amounts, l: ResourceLimits, out: &mut [i64
 
 fn write_resource(b: &[u8], q: &[u8], r: usize, z: usize, f: usize, i: usize, out: &mut [i64])
     requires { ⌜ Standing (now b) (now q) r z f × ((i < r) × (5 ≤ length (now out))) ⌝ }
-    ensures { λ _. ⌜ now (out .exit) ≡ map (chargeOf (now (b .entry)) (now (q .entry))) (map (Limited i) limits) ++ drop 5 (now (out .entry)) ⌝ }
+    ensures { λ _. ⌜ now (out .exit) ≡ map (rowChargeIn (now (b .entry)) (now (q .entry))) (map (Limited i) limits) ++ drop 5 (now (out .entry)) ⌝ }
 {
     let prices = entries::limit_prices_at(q, r, z, f, i);
     let resource = readers::resource_at(b, r, z, f, i);
@@ -223,7 +223,7 @@ fn write_resource(b: &[u8], q: &[u8], r: usize, z: usize, f: usize, i: usize, ou
 // Each resource's, from its own place on.
 fn write_resources(b: &[u8], q: &[u8], r: usize, z: usize, f: usize, out: &mut [i64])
     requires { ⌜ Standing (now b) (now q) r z f × (r * 5 ≤ length (now out)) ⌝ }
-    ensures { λ _. ⌜ now (out .exit) ≡ map (chargeOf (now (b .entry)) (now (q .entry))) (limitRows (caseOf (now (b .entry)))) ++ drop (r * 5) (now (out .entry)) ⌝ }
+    ensures { λ _. ⌜ now (out .exit) ≡ map (rowChargeIn (now (b .entry)) (now (q .entry))) (limitRows (caseOf (now (b .entry)))) ++ drop (r * 5) (now (out .entry)) ⌝ }
 {
     let mut i: usize = 0;
     let mut at: usize = 0;
@@ -239,7 +239,7 @@ fn write_resources(b: &[u8], q: &[u8], r: usize, z: usize, f: usize, out: &mut [
 // Flowgates' and resources'.
 fn write_network(b: &[u8], q: &[u8], r: usize, z: usize, f: usize, out: &mut [i64])
     requires { ⌜ Standing (now b) (now q) r z f × (f + r * 5 ≤ length (now out)) ⌝ }
-    ensures { λ _. ⌜ now (out .exit) ≡ map (chargeOf (now (b .entry)) (now (q .entry))) (flowgateRows (caseOf (now (b .entry))) ++ limitRows (caseOf (now (b .entry)))) ++ drop (f + r * 5) (now (out .entry)) ⌝ }
+    ensures { λ _. ⌜ now (out .exit) ≡ map (rowChargeIn (now (b .entry)) (now (q .entry))) (flowgateRows (caseOf (now (b .entry))) ++ limitRows (caseOf (now (b .entry)))) ++ drop (f + r * 5) (now (out .entry)) ⌝ }
 {
     write_flowgates(b, q, r, z, f, out);
     write_resources(b, q, r, z, f, &mut out[f..]);

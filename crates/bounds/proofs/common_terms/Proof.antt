@@ -2,6 +2,7 @@ use mathlib.Core.Path.{_≡_, _∙_}
 use Prim.Native.Nat.{_≤_}
 use native.Mathlib.Omega.{arith}
 use lib.IntN.{natAbs}
+use Rattle.market.specs.Sizes.{mostDemand}
 use Rattle.market.specs.Rows.{Balance, rightSide}
 use Rattle.bounds.specs.Terms.{rowTerm}
 use Rattle.bounds.proofs.RowTerms.{balance-room}
@@ -13,7 +14,7 @@ worth-requires : tie.Need-worth-requires
 worth-requires c κs = rw (c .before .balance-price .ensures, c .demand .ensures) (balance-room (c .before .before .before .before .pre))
 
 -- row 1
-demand-most : (c : tie.After-demand) → natAbs (c .demand .result .0) ≤ 128000000
+demand-most : (c : tie.After-demand) → natAbs (c .demand .result .0) ≤ mostDemand
 demand-most c = rw (c .demand .ensures) (balance-room (c .before .before .before .before .pre) .right-side)
 
 balance : (c : tie.After-worth) → let s = c .before .before .before .before .before in c .worth .result .0 ≡ rowTerm (s .args .b .now) (s .args .q .now) Balance

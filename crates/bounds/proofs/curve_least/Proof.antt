@@ -3,16 +3,16 @@ use Prim.Native.Nat.{_-_, _*_, _≤_}
 use native.Mathlib.Omega.{arith}
 use Rattle.arith.specs.Sums.{sumOf, upto}
 use Rattle.records.specs.Ranged.{curveStep}
-use Rattle.bounds.specs.Sizes.{mostCurveStep, Figure}
+use Rattle.bounds.specs.Sizes.{mostCurveStepTerm, Figure}
 use Rattle.bounds.specs.Terms.{curveStepLeast}
 use Rattle.bounds.proofs.Figures.{none-yet, one-more, all-of}
-use Rattle.bounds.proofs.PricedTerms.{curve-step-small}
+use Rattle.bounds.proofs.PricedSizes.{curve-step-small}
 use borrow.Author.Needs.{needs}
 use Rattle.bounds.proofs.curve_least.Statement.{statement}
 use Rattle.bounds.proofs.curve_least.Tie as tie
 
 abbrev Inv-loop : tie.InvT-loop
-Inv-loop price curve sum₀ j₀ sum j = (j ≤ 4) × Figure sum (sumOf (λ j. curveStepLeast price (curveStep curve j)) (upto j)) (j * mostCurveStep)
+Inv-loop price curve sum₀ j₀ sum j = (j ≤ 4) × Figure sum (sumOf (λ j. curveStepLeast price (curveStep curve j)) (upto j)) (j * mostCurveStepTerm)
 
 abbrev μ-loop : tie.MeasureT-loop
 μ-loop price curve sum₀ j₀ sum j = 4 - j

@@ -8,7 +8,8 @@ use Rattle.records.proofs.Places.{head-in, resource-in}
 use Rattle.records.proofs.Ranged.{valid-resource}
 use Rattle.prices.proofs.Known.{case-ranges, prices-in-range, resource-below}
 use Rattle.nets.proofs.Known.{nets-small}
-use Rattle.bounds.proofs.PricedTerms.{steps-small, bounds-small, resource-least-is}
+use Rattle.bounds.proofs.PricedSizes.{steps-small, bounds-small}
+use Rattle.bounds.proofs.PricedTerms.{resource-least-is}
 use borrow.Author.Needs.{needs}
 use Rattle.bounds.proofs.least_terms.Statement.{statement}
 use Rattle.bounds.proofs.least_terms.Tie as tie

@@ -3,16 +3,18 @@ use Prim.Native.Nat.{_-_, _*_, _≤_}
 use native.Mathlib.Omega.{arith}
 use Rattle.arith.specs.Sums.{sumOf, totalOf, upto}
 use Rattle.records.specs.Ranged.{offerStep}
-use Rattle.bounds.specs.Sizes.{mostNet, Figure, stepsWidth}
+use Rattle.market.specs.UpperBounds.{energy}
+use Rattle.market.specs.Sizes.{mostServiceNet}
+use Rattle.bounds.specs.Sizes.{Figure, stepsWidth}
 use Rattle.bounds.specs.Terms.{stepLeast}
 use Rattle.bounds.proofs.Figures.{none-yet, one-more, all-of}
-use Rattle.bounds.proofs.PricedTerms.{step-small, widths-next, widths-room, widths-all}
+use Rattle.bounds.proofs.PricedSizes.{step-small, widths-next, widths-room, widths-all}
 use borrow.Author.Needs.{needs}
 use Rattle.bounds.proofs.steps_least.Statement.{statement}
 use Rattle.bounds.proofs.steps_least.Tie as tie
 
 abbrev Inv-loop : tie.InvT-loop
-Inv-loop prices on steps sum₀ j₀ sum j = (j ≤ 10) × Figure sum (sumOf (λ j. stepLeast prices on (offerStep steps j)) (upto j)) (mostNet * stepsWidth steps j)
+Inv-loop prices on steps sum₀ j₀ sum j = (j ≤ 10) × Figure sum (sumOf (λ j. stepLeast prices on (offerStep steps j)) (upto j)) (mostServiceNet energy * stepsWidth steps j)
 
 abbrev μ-loop : tie.MeasureT-loop
 μ-loop prices on steps sum₀ j₀ sum j = 10 - j

@@ -1,4 +1,4 @@
-use Rattle.nets.specs.Sizes.{mostPrice}
+use Rattle.market.specs.Sizes.{mostPrice}
 use Rattle.bounds.proofs.Figures.{figure-is, row-room, product-most}
 use Rattle.bounds.proofs.worth.Statement.{statement}
 use Rattle.bounds.proofs.worth.Tie as tie

@@ -12,6 +12,7 @@ use Rattle.arith.specs.Sums.{upto}
 use Rattle.market.specs.Records.{grains, power}
 use Rattle.market.specs.Cost.{filled}
 use Rattle.market.specs.Case.{widthOf}
+use Rattle.market.specs.Sizes.{mostCurveWidth}
 use Rattle.records.specs.Ranged.{curveStep}
 use Rattle.costs.proofs.Filling.{before-steps, next-step, left-room, width-room, curve-ranges}
 use Rattle.costs.specs.declared.Filled.{Filled}
@@ -29,7 +30,7 @@ abbrev μ-loop : tie.MeasureT-loop
 μ-loop price out₀ curve left₀ j₀ out left j = 4 - j
 
 -- the steps are in their ranges
-ranges : (c : tie.Start Inv-loop μ-loop) → StepRanges (curveStep (c .args .t2)) 4 8000000
+ranges : (c : tie.Start Inv-loop μ-loop) → StepRanges (curveStep (c .args .t2)) 4 mostCurveWidth
 ranges c = curve-ranges (c .pre .0 .steps)
 
 -- step j is filled out of what is left
@@ -59,7 +60,7 @@ fill-requires c κs =
     rw (c .before .before .loop .inv .1) (left-room (ranges s) (omega arith) (omega arith) x j (omega (arith, s .pre .0 .cleared .at-most)), width-room (ranges s) (omega arith) (omega arith) x j (omega arith))
 
 curve-step-charge-requires : tie.Need-curve-step-charge-requires Inv-loop μ-loop
-curve-step-charge-requires c κs = let s = c .before .before .before .before in rw (filled-now c) (record { row-price = s .pre .0 .row-price; filled = curve-step-room (s .pre .0 .steps) (natAbs (s .args .cleared .0)) (c .before .before .before .loop .j) (omega arith) })
+curve-step-charge-requires c κs = let s = c .before .before .before .before in rw (filled-now c) (s .pre .0 .row-price, curve-step-room (s .pre .0 .steps) (natAbs (s .args .cleared .0)) (c .before .before .before .loop .j) (omega arith))
 
 loop-again : tie.Need-loop-again Inv-loop μ-loop
 loop-again c =

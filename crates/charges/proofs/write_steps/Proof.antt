@@ -12,6 +12,7 @@ use Rattle.arith.specs.Sums.{upto}
 use Rattle.market.specs.Records.{grains, power}
 use Rattle.market.specs.Cost.{filled}
 use Rattle.market.specs.Case.{widthOf}
+use Rattle.market.specs.Sizes.{mostPower}
 use Rattle.records.specs.Ranged.{offerStep}
 use Rattle.costs.proofs.Filling.{before-steps, next-step, left-room, width-room, offer-ranges}
 use Rattle.costs.specs.declared.Filled.{Filled}
@@ -29,7 +30,7 @@ abbrev μ-loop : tie.MeasureT-loop
 μ-loop prices on out₀ steps left₀ j₀ out left j = 10 - j
 
 -- the steps are in their ranges
-ranges : (c : tie.Start Inv-loop μ-loop) → StepRanges (offerStep (c .args .t3)) 10 2000000
+ranges : (c : tie.Start Inv-loop μ-loop) → StepRanges (offerStep (c .args .t3)) 10 mostPower
 ranges c = offer-ranges (c .pre .0 .1 .steps)
 
 -- step j is filled out of what is left

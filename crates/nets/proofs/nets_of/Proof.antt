@@ -1,17 +1,26 @@
 use Rattle.market.specs.Records.{millicents}
 use mathlib.Core.Path.{ap}
+use Prim.Native.Nat.{_≤_}
 use native.Mathlib.Omega.{arith}
+use lib.IntN.{natAbs}
+use Rattle.market.specs.Sizes.{mostSpinningPrice}
 use Rattle.nets.proofs.Figures.{chosen-size}
 use Rattle.nets.specs.NetPrices.{netsFrom}
 use borrow.Author.Needs.{needs}
 use Rattle.nets.proofs.nets_of.Statement.{statement}
 use Rattle.nets.proofs.nets_of.Tie as tie
 
+-- of contingency reserve, the price that counts
+counted : (c : tie.After-contingency-price) → natAbs (c .contingency-price .result .0) ≤ mostSpinningPrice
+counted c =
+    let s = c .before .before in
+    let zone = s .args .prices in
+    rw (c .contingency-price .ensures) (chosen-size (s .args .spins) (zone .spinning) (zone .supplemental) (omega arith) (omega arith))
+
 reserve-net-requires-2 : tie.Need-reserve-net-requires-2
 reserve-net-requires-2 c κs =
     let s = c .before .before .before .before .before in
-    let zone = s .args .prices in
-    (s .pre .0 .contingency, record { zone-price = rw (c .before .before .before .contingency-price .ensures) (chosen-size (s .args .spins) (zone .spinning) (zone .supplemental) (omega arith) (omega arith)); own-rows = omega arith })
+    (s .pre .0 .contingency, omega (arith, counted (c .before .before .before)))
 
 returns : tie.Need-returns
 unfolding netsFrom

@@ -10,8 +10,9 @@ use Rattle.records.proofs.Places.{resources-is}
 use Rattle.prices.proofs.Known.{case-ranges, prices-in-range}
 use Rattle.rows.proofs.Known.{energy-bounded}
 use Rattle.arith.proofs.Buffers.{store-front}
-use Rattle.row_charges.specs.Families.{chargeOf}
-use Rattle.row_charges.proofs.Known.{balance-room, balance-charge}
+use Rattle.row_charges.specs.Families.{rowChargeIn}
+use Rattle.row_charges.proofs.FromRecords.{balance-charge}
+use Rattle.row_charges.proofs.Fit.{balance-room}
 use Rattle.row_charges.proofs.write_balance.Statement.{statement}
 use Rattle.row_charges.proofs.write_balance.Tie as tie
 
@@ -35,7 +36,7 @@ returns c =
       c .before .before .demand .ensures,
       balance-charge (caseOf (s .args .b .now)) (certificateOf (s .args .q .now) .amount) (certificateOf (s .args .q .now) .price) (s .args .r) (resources-is (s .pre .0 .prices .case-bytes)),
     )
-    (store-front (chargeOf (s .args .b .now) (s .args .q .now) Balance ∷ []) (s .args .out .now) (omega arith))
+    (store-front (rowChargeIn (s .args .b .now) (s .args .q .now) Balance ∷ []) (s .args .out .now) (omega arith))
 
 pub write-balance-spec : {M : Type 1} → statement M
 write-balance-spec =

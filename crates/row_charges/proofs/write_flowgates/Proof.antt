@@ -10,13 +10,13 @@ use Rattle.arith.proofs.Machine.{read-back}
 use Rattle.arith.specs.Sums.{upto}
 use Rattle.market.specs.Rows.{Flowgate}
 use Rattle.records.proofs.Places.{flowgates-is}
-use Rattle.row_charges.specs.Families.{chargeOf}
+use Rattle.row_charges.specs.Families.{rowChargeIn}
 use Rattle.row_charges.proofs.Written.{row-written, rows-done}
 use Rattle.row_charges.proofs.write_flowgates.Statement.{statement}
 use Rattle.row_charges.proofs.write_flowgates.Tie as tie
 
 abbrev Inv-loop : tie.InvT-loop
-Inv-loop b q r z f out₀ g₀ out g = (g ≤ f) × (length out ≡ length out₀) × (out ≡ map (chargeOf b q) (map Flowgate (upto g)) ++ drop g out₀)
+Inv-loop b q r z f out₀ g₀ out g = (g ≤ f) × (length out ≡ length out₀) × (out ≡ map (rowChargeIn b q) (map Flowgate (upto g)) ++ drop g out₀)
 
 abbrev μ-loop : tie.MeasureT-loop
 μ-loop b q r z f out₀ g₀ out g = f - g
@@ -29,7 +29,7 @@ loop-again : tie.Need-loop-again Inv-loop μ-loop
 loop-again c =
     let s = c .before .before .before .before .before .before in
     let l = c .before .before .before .loop in
-    let h = chargeOf (s .args .b .now) (s .args .q .now) in
+    let h = rowChargeIn (s .args .b .now) (s .args .q .now) in
     rw (read-back (c .struct-told .given .0 .1), c .before .flowgate-charge .ensures) (
       omega arith,
       length-set (l .out) (l .g) (h (Flowgate (l .g))) ∙ l .inv .1,
@@ -40,7 +40,7 @@ returns : tie.Need-returns Inv-loop μ-loop
 returns c =
     let s = c .before .before .before .before in
     let l = c .before .loop in
-    rows-done (chargeOf (s .args .b .now) (s .args .q .now)) Flowgate (omega arith) (flowgates-is (s .pre .0 .prices .case-bytes)) (s .args .out .now) (l .out) (l .inv .2)
+    rows-done (rowChargeIn (s .args .b .now) (s .args .q .now)) Flowgate (omega arith) (flowgates-is (s .pre .0 .prices .case-bytes)) (s .args .out .now) (l .out) (l .inv .2)
 
 pub write-flowgates-spec : {M : Type 1} → statement M
 write-flowgates-spec =

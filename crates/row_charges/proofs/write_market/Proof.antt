@@ -8,7 +8,8 @@ use Rattle.market.specs.CaseFile.{caseOf}
 use Rattle.market.specs.Certificate.{certificateOf}
 use Rattle.records.proofs.Places.{resources-is}
 use Rattle.prices.proofs.Known.{case-ranges, prices-in-range}
-use Rattle.row_charges.proofs.Known.{market-room, market-charges}
+use Rattle.row_charges.proofs.FromRecords.{market-charges}
+use Rattle.row_charges.proofs.Fit.{market-room}
 use Rattle.row_charges.proofs.write_market.Statement.{statement}
 use Rattle.row_charges.proofs.write_market.Tie as tie
 

@@ -10,7 +10,8 @@ use Rattle.limits.specs.Together.{limitsOf}
 use Rattle.prices.proofs.Known.{case-ranges, prices-in-range, resource-below}
 use Rattle.reserves.proofs.Known.{amounts-small}
 use Rattle.rows.proofs.Known.{resource-ranged}
-use Rattle.row_charges.proofs.Known.{limit-room, limit-charges}
+use Rattle.row_charges.proofs.FromRecords.{limit-charges}
+use Rattle.row_charges.proofs.Fit.{limit-room}
 use Rattle.row_charges.proofs.write_resource.Statement.{statement}
 use Rattle.row_charges.proofs.write_resource.Tie as tie
 

@@ -11,7 +11,7 @@ use Rattle.market.specs.Rows.{Balance, marketRows, zoneRows, flowgateRows, limi
 use Rattle.records.proofs.Places.{zones-is}
 use Rattle.arith.proofs.Buffers.{rest-length, write-on}
 use Rattle.reserves.specs.declared.ReserveTotals.{ReserveTotals}
-use Rattle.row_charges.specs.Families.{chargeOf}
+use Rattle.row_charges.specs.Families.{rowChargeIn}
 use Rattle.row_charges.proofs.Written.{zone-count, all-written}
 use Rattle.row_charges.proofs.write_row_charges.Statement.{statement}
 use Rattle.row_charges.proofs.write_row_charges.Tie as tie
@@ -30,13 +30,13 @@ write-zones-requires c κs =
 -- rows 1 to 5 and the zones' stand in front
 zones-written : (c : tie.After-out2) →
     let s = c .before .before .before .before .before .before .before .before .before .before in
-    let h = chargeOf (s .args .b .now) (s .args .q .now) in
+    let h = rowChargeIn (s .args .b .now) (s .args .q .now) in
     let first = c .before .before .before .before .write-system .last .1 .1 .1 .1 .1 .1 .0 in
     putMid 5 (length first - 5) first (c .before .write-zones .last .1 .1 .1 .1 .1 .1 .0)
     ≡ (map h (Balance ∷ marketRows) ++ map h (zoneRows (caseOf (s .args .b .now)))) ++ drop (5 + s .args .z * 4) (s .args .out .now)
 zones-written c =
     let s = c .before .before .before .before .before .before .before .before .before .before in
-    let h = chargeOf (s .args .b .now) (s .args .q .now) in
+    let h = rowChargeIn (s .args .b .now) (s .args .q .now) in
     write-on (map h (Balance ∷ marketRows)) (map h (zoneRows (caseOf (s .args .b .now)))) (s .args .out .now) (c .before .before .before .before .write-system .last .1 .1 .1 .1 .1 .1 .0) (c .before .write-zones .last .1 .1 .1 .1 .1 .1 .0)
     5 (s .args .z * 4) 5 refl refl (omega arith) (c .before .before .before .before .write-system .ensures) (c .before .write-zones .ensures)
 
@@ -44,7 +44,7 @@ returns : tie.Need-returns
 returns c =
     let s = c .before .before .before .before .before .before .before .before .before .before .before .before .before in
     let cs = caseOf (s .args .b .now) in
-    let h = chargeOf (s .args .b .now) (s .args .q .now) in
+    let h = rowChargeIn (s .args .b .now) (s .args .q .now) in
     let first = c .before .before .before .before .before .before .before .write-system .last .1 .1 .1 .1 .1 .1 .0 in
     let out = putMid 5 (length first - 5) first (c .before .before .before .before .write-zones .last .1 .1 .1 .1 .1 .1 .0) in
     write-on (map h (Balance ∷ marketRows) ++ map h (zoneRows cs)) (map h (flowgateRows cs ++ limitRows cs)) (s .args .out .now) out (c .before .write-network .last .1 .1 .1 .1 .1 .0)

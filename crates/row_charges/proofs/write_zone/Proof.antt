@@ -8,7 +8,8 @@ use Rattle.market.specs.CaseFile.{caseOf}
 use Rattle.market.specs.Certificate.{certificateOf}
 use Rattle.records.proofs.Places.{resources-is}
 use Rattle.prices.proofs.Known.{case-ranges, prices-in-range, zone-below}
-use Rattle.row_charges.proofs.Known.{zone-room, zone-charges}
+use Rattle.row_charges.proofs.FromRecords.{zone-charges}
+use Rattle.row_charges.proofs.Fit.{zone-room}
 use Rattle.row_charges.proofs.write_zone.Statement.{statement}
 use Rattle.row_charges.proofs.write_zone.Tie as tie
 
