@@ -1,8 +1,10 @@
-"""Holds docs/READING.md to the files that it speaks of.
+"""Holds pages of docs/ to the files that they speak of.
 
-On that page a code span `Rows.coefficient` names what a file Rows.antt below crates/*/specs or crates/*/proofs
-declares, and a code span `crates/market/specs/Rows.antt` names a file. Each such span is one check. So is the
-length of the page. The script first tries itself on a small tree of its own.
+On these pages a code span `Rows.coefficient` names what a file Rows.antt below crates/*/specs or crates/*/proofs
+declares, a code span `limits::portion` names what the code of the crate limits declares, and a code span
+`crates/market/specs/Rows.antt` names a file. Each such span is one check. So is each block of code, whose lines must
+stand together in a file below crates/*/specs, and the length of the page. A block that is marked as text is no code.
+The script first tries itself on a small tree of its own.
 
     python3 names.py TOP      TOP is the top of the repository
 """
@@ -12,13 +14,13 @@ import sys
 import tempfile
 from pathlib import Path
 
-PAGE = "docs/READING.md"
-MOST_LINES = 120
+PAGES = {"docs/READING.md": 160}  # with the most lines that each may have
 
 NAME = re.compile(r'«[^»]*»|[^\s(){}.;,@"«»]+')  # what antt takes for a name
 MARKS = {"pub", "unfoldable", "abbrev", "axiom"}
 NAMING_SPAN = re.compile(r"([A-Z][\w′-]*)\.(\S+)")
-PATH_SPAN = re.compile(r"(crates|docs|reference|tests)/\S*|\S+\.(antt|rt|md)")
+CODE_SPAN = re.compile(r"([a-z]\w*)::(\w+(?:::\w+)?)")
+PATH_SPAN = re.compile(r"(\.ci|bench|crates|docs|examples|include|packaging|python|reference|tests)/\S*|\S+\.(antt|c|h|md|py|rs|rt|txt)")
 
 
 def declared(text):
@@ -55,43 +57,70 @@ def wrong_name(top, stem, name):
     return None
 
 
-def check(top):
-    """Checks the page of a tree; gives the number of checks that passed, and a line for each that did not."""
-    page = top / PAGE
-    if not page.is_file():
-        return 0, [f"{PAGE}: there is no such page"]
-    lines = page.read_text(encoding="utf-8").splitlines()
-    passed, wrong, names, fenced = 0, [], 0, False
+def wrong_item(top, crate, item):
+    """What is wrong with a function, type or constant of a crate's code, or None."""
+    code = "\n".join(f.read_text(encoding="utf-8") for f in sorted(top.glob(f"crates/{crate}/src/**/*.rt")))
+    if not code:
+        return f"there is no code below crates/{crate}/src"
+    *owner, name = item.split("::")
+    found = re.search(rf"\b(fn|struct|enum|const) {name}\b", code) and all(re.search(rf"\bimpl {o}\b", code) for o in owner)
+    return None if found else f"not declared below crates/{crate}/src"
+
+
+def wrong_span(top, span):
+    """Whether a code span names something, and what is wrong with it, or None."""
+    if re.search(r"(^|/)[A-Z]+(/|$)", span):
+        return False, None  # a pattern, as crates/NAME/src
+    if PATH_SPAN.fullmatch(span):
+        return True, None if (top / span).exists() else "there is no such file"
+    if match := NAMING_SPAN.fullmatch(span):
+        return True, wrong_name(top, *match.groups())
+    if match := CODE_SPAN.fullmatch(span):
+        return True, wrong_item(top, *match.groups())
+    return False, None
+
+
+def wrong_block(top, block):
+    """What is wrong with a block of code that a page quotes, or None."""
+    files = top.glob("crates/*/specs/**/*.antt")
+    if any("\n".join(block) in f.read_text(encoding="utf-8") for f in files):
+        return None
+    return "these lines stand in no file below crates/*/specs"
+
+
+def check(top, page, most_lines):
+    """Checks a page of a tree; gives the number of checks that passed, and a line for each that did not."""
+    if not (top / page).is_file():
+        return 0, [f"{page}: there is no such page"]
+    lines = (top / page).read_text(encoding="utf-8").splitlines()
+    problems, names, block, quoted = [], 0, None, False
     for number, line in enumerate(lines, start=1):
+        at = f"{page}:{number}:"
         if line.lstrip().startswith("```"):
-            fenced = not fenced
-            continue
-        if fenced:
-            continue
-        if line.count("`") % 2:
-            wrong.append(f"{PAGE}:{number}: a code span does not end on its line, so its names cannot be checked")
-            continue
-        for span in re.findall(r"`([^`]+)`", line):
-            if PATH_SPAN.fullmatch(span):
-                problem = None if (top / span).exists() else "there is no such file"
-            elif match := NAMING_SPAN.fullmatch(span):
-                names += 1
-                problem = wrong_name(top, *match.groups())
-            else:
+            if block is None:
+                block, quoted = [], line.strip() != "```text"
                 continue
-            if problem is None:
-                passed += 1
-            else:
-                wrong.append(f"{PAGE}:{number}: `{span}`: {problem}")
-    if fenced:
-        wrong.append(f"{PAGE}: a block of code does not end")
+            if quoted:
+                problem = wrong_block(top, block)
+                problems.append(problem and f"{at} {problem}")
+            block = None
+        elif block is not None:
+            block.append(line)
+        elif line.count("`") % 2:
+            problems.append(f"{at} a code span does not end on its line, so its names cannot be checked")
+        else:
+            for span in re.findall(r"`([^`]+)`", line):
+                is_name, problem = wrong_span(top, span)
+                if is_name:
+                    names += not PATH_SPAN.fullmatch(span)
+                    problems.append(problem and f"{at} `{span}`: {problem}")
+    if block is not None:
+        problems.append(f"{page}: a block of code does not end")
     if names == 0:
-        wrong.append(f"{PAGE}: it names no definition")
-    if len(lines) > MOST_LINES:
-        wrong.append(f"{PAGE}: it has {len(lines)} lines, and may have {MOST_LINES}")
-    else:
-        passed += 1
-    return passed, wrong
+        problems.append(f"{page}: it names no definition")
+    problems.append(f"{page}: it has {len(lines)} lines, and may have {most_lines}" if len(lines) > most_lines else None)
+    wrong = [p for p in problems if p is not None]
+    return len(problems) - len(wrong), wrong
 
 
 SAMPLE = """\
@@ -110,6 +139,22 @@ module _ (n : ℕ) where
 
 Ω-bound :
   (applied : ℕ) → ℕ
+"""
+
+SAMPLE_CODE = """\
+pub const MOST: usize = 4;
+
+pub struct Kw(i64);
+
+impl Kw {
+    pub fn of(n: i64) -> Kw {
+        Kw(n)
+    }
+}
+
+fn lowest(a: Kw) -> Kw {
+    a
+}
 """
 
 # a page's lines, and whether each is right; None: the line holds nothing to check
@@ -133,8 +178,15 @@ SAMPLE_PAGE = [
     ("`Columns.Curve`", False),
     ("`crates/one/specs/Rows.antt`", False),
     ("`Rows.antt`", False),
+    ("`one::lowest`", True),
+    ("`one::Kw::of`", True),
+    ("`one::MOST`", True),
+    ("`one::highest`", False),
+    ("`one::Cents::of`", False),
+    ("`two::lowest`", False),
+    ("`include/one.h`", False),
     ("`a span that is left open", False),
-    ("`rt ci`, `n`, `r .field`, `Rows.gone n`, MW/min, Rows.gone", None),
+    ("`rt ci`, `n`, `r .field`, `Rows.gone n`, `crates/NAME/src/lib.rt`, MW/min, Rows.gone", None),
 ]
 
 
@@ -153,27 +205,32 @@ def self_test():
         top = Path(room)
         (top / "crates/one/specs/deep").mkdir(parents=True)
         (top / "crates/one/specs/deep/Rows.antt").write_text(SAMPLE, encoding="utf-8")
-        (top / "docs").mkdir()
+        (top / "crates/one/src").mkdir()
+        (top / "crates/one/src/lib.rt").write_text(SAMPLE_CODE, encoding="utf-8")
 
         def check_page(lines):
-            (top / PAGE).write_text("".join(f"{line}\n" for line in lines), encoding="utf-8")
-            return check(top)
+            (top / "page.md").write_text("".join(f"{line}\n" for line in lines), encoding="utf-8")
+            return check(top, "page.md", 50)
 
-        expect("no page passes", check(top) == (0, [f"{PAGE}: there is no such page"]))
+        expect("no page passes", check(top, "page.md", 50) == (0, ["page.md: there is no such page"]))
         for line, right in SAMPLE_PAGE:
             good, bad = check_page(["`Rows.Curve`", line])  # two passes are of the first line and of the length
             outcome = {(3, 0): True, (2, 1): False, (2, 0): None}.get((good, len(bad)))
-            expect(f"{line}: {good} passed, {bad}", outcome is right and all(b.startswith(f"{PAGE}:2: ") for b in bad))
-        expect("a page without a name passes", len(check_page(["`docs/READING.md`"])[1]) == 1)
-        expect("a page of 120 lines fails", check_page(["`Rows.Curve`"] * MOST_LINES) == (MOST_LINES + 1, []))
-        expect("a page of 121 lines passes", len(check_page(["`Rows.Curve`"] * (MOST_LINES + 1))[1]) == 1)
+            expect(f"{line}: {good} passed, {bad}", outcome is right and all(b.startswith("page.md:2: ") for b in bad))
+        expect("a page without a name passes", len(check_page(["`page.md`"])[1]) == 1)
+        expect("a page of 50 lines fails", check_page(["`Rows.Curve`"] * 50) == (51, []))
+        expect("a page of 51 lines passes", len(check_page(["`Rows.Curve`"] * 51)[1]) == 1)
         expect("a code block that is left open passes", len(check_page(["`Rows.Curve`", "```"])[1]) == 1)
+        quoted = ["pub data Curve : Type 0 where", "  operating regulating-up : Curve"]
+        expect("a quoted block fails", check_page(["`Rows.Curve`", "```", *quoted, "```"]) == (3, []))
+        expect("a block of other lines passes", len(check_page(["`Rows.Curve`", "```", *reversed(quoted), "```"])[1]) == 1)
+        expect("a block of text fails", check_page(["`Rows.Curve`", "```text", "bytes → figures", "```"]) == (2, []))
     return passed, wrong
 
 
 def main():
     passed, failed = 0, 0
-    for good, wrong in (self_test(), check(Path(sys.argv[1]))):
+    for good, wrong in (self_test(), *(check(Path(sys.argv[1]), page, most) for page, most in PAGES.items())):
         passed += good
         failed += len(wrong)
         for line in wrong:
