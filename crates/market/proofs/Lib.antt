@@ -45,3 +45,4 @@ pub mod RoundTrips
 pub mod InOrder
 pub mod FirstFailing
 pub mod StatusBits
+pub mod SizesInWords

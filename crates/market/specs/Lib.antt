@@ -21,6 +21,7 @@ pub mod Worked
 pub mod Promise
 pub mod RefusedExactly
 pub mod InWords
+pub mod SizesInWords
 pub mod CheckInWords
 pub mod AvailabilityInWords
 pub mod WrongTurns
