@@ -27,17 +27,30 @@ figure-as h e l = record { is = h .is ∙ e; size = omega arith }
 pub product-most : (a b : ℤ) (m : ℕ) → natAbs a ≤ m → natAbs (a *ℤ b) ≤ m * natAbs b
 product-most a b m h = omega (arith, abs-mul a b, mul-le-mul-right (natAbs b) h)
 
--- ---- a loop's sum: u is s and one term more
-pub none-yet : (term : ℕ → ℤ) → Figure (grains (pos 0)) (sumOf term (upto 0)) 0
-unfolding sumOf upto
-none-yet term = record { is = refl; size = omega arith }
+-- ---- a sum in a loop: after k of n turns it is the sum of the first k terms, and at most `most k`
+pub record Summed (term : ℕ → ℤ) (most : ℕ → ℕ) (n : ℕ) (sum : Grains) (k : ℕ) : Type 0 where
+  pub turns : k ≤ n
+  pub figure : Figure sum (sumOf term (upto k)) (most k)
 
-pub one-more : (term : ℕ → ℤ) (k : ℕ) {s t u : Grains} {m n most : ℕ} → Figure s (sumOf term (upto k)) m → Figure t (term k) n → Figure u (s .0 +ℤ t .0) (natAbs (s .0) + natAbs (t .0)) → m + n ≤ most → Figure u (sumOf term (upto (k + 1))) most
-one-more term k h j g l = record { is = g .is ∙ rw (h .is, j .is, sum-upto term k); size = omega arith }
+module _ {term : ℕ → ℤ} {most : ℕ → ℕ} {n : ℕ} where
+  pub none-summed : Summed term most n (grains (pos 0)) 0
+  unfolding sumOf upto
+  none-summed = record { turns = omega arith; figure = record { is = refl; size = omega arith } }
 
--- the last turn is over
-pub all-of : (term : ℕ → ℤ) {g : Grains} {k n m t : ℕ} → Figure g (sumOf term (upto k)) m → k ≡ n → m ≤ t → Figure g (sumOf term (upto n)) t
-all-of term h e l = figure-as h (ap (λ (j : ℕ). sumOf term (upto j)) e) l
+  -- u is s and one term more
+  pub one-summed : {s t u : Grains} {k m : ℕ} → Summed term most n s k → k < n → Figure t (term k) m → Figure u (s .0 +ℤ t .0) (natAbs (s .0) + natAbs (t .0)) → most k + m ≤ most (k + 1) → Summed term most n u (k + 1)
+  one-summed {k = k} h l j g fit =
+      record {
+        turns = omega arith;
+        figure = record { is = g .is ∙ rw (h .figure .is, j .is, sum-upto term k); size = omega (arith, g .size, h .figure .size, j .size) };
+      }
+
+  -- the last turn is over
+  pub all-summed : {s : Grains} {k t : ℕ} → Summed term most n s k → n ≤ k → most n ≤ t → Figure s (sumOf term (upto n)) t
+  all-summed {s} {k} h l fit =
+      let e : k ≡ n = omega (arith, h .turns) in
+      let f : Figure s (sumOf term (upto n)) (most n) = rw (← e) (h .figure) in
+      record { is = f .is; size = omega (arith, f .size) }
 
 -- ---- products
 -- each factor within its figure: the product fits

@@ -50,7 +50,7 @@ module _ (c : Case) (h : CaseRanges c) (i : ℕ) (n : i < c .resources) where
         off-line-short-term = most offLineShortTerm;
       }
 
--- the steps of an offer: widths so far, with one more, and all; a step by its number
+-- the steps of an offer: widths so far, and with one more; a step by its number
 module _ {o : OfferSteps} (h : SmallSteps o) where
   abbrev widths : ℕ → ℕ
   widths j = natAbs (offerStep o j .width .0)
@@ -60,9 +60,6 @@ module _ {o : OfferSteps} (h : SmallSteps o) where
 
   pub widths-room : (j : ℕ) → j < energySteps → stepsWidth o j + natAbs (offerStep o j .width .0) ≤ mostPower
   widths-room j l = omega (arith, total-suc widths j, total-longer widths {m = suc j} energySteps l, h .together)
-
-  pub widths-all : (j : ℕ) → j ≤ energySteps → stepsWidth o j ≤ mostPower
-  widths-all j l = omega (arith, total-longer widths {m = j} energySteps l, h .together)
 
   pub step-small : (j : ℕ) → j < energySteps → SmallStep (offerStep o j) mostPower
   step-small j l = record { width = omega (arith, widths-room j l); price = h .price j l }

@@ -1,3 +1,4 @@
 pub mod Fit
+pub mod StepCharges
 pub mod Families
 pub mod Known

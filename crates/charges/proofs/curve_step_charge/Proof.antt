@@ -2,15 +2,14 @@
 use mathlib.Core.Path.{_∙_}
 use native.Mathlib.Omega.{arith}
 use borrow.Author.Needs.{needs}
+use Rattle.market.specs.Sizes.{mostCurveWidth}
 use Rattle.charges.specs.Terms.{curveStepCharge}
 use Rattle.charges.proofs.Fit.{charge-room}
 use Rattle.charges.proofs.curve_step_charge.Statement.{statement}
 use Rattle.charges.proofs.curve_step_charge.Tie as tie
 
 quantity-charge-requires : tie.Need-quantity-charge-requires
-quantity-charge-requires c κs =
-    let s = c .before in
-    charge-room (c .curve-net .ensures .size) (s .pre .1 .part) (s .pre .1 .step .width) (omega arith) (omega arith) (omega arith)
+quantity-charge-requires c κs = charge-room {n = mostCurveWidth} (c .curve-net .ensures .size) (omega arith) (omega arith) (omega arith) (omega arith) (omega arith)
 
 returns : tie.Need-returns
 unfolding curveStepCharge
