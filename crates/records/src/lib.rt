@@ -36,7 +36,7 @@ fn trip_at(b: &[u8], at: usize) -> Minutes
     Minutes(wire::u8_at(b, at) as u32)
 }
 
-// The status is read last: masked between the others, it makes the certificate check 3 in 100 slower.
+// The status is read last: masked between the others, it makes the call for charges 2 in 100 slower.
 fn state_at(b: &[u8], at: usize) -> State
     requires { ⌜ Within (now b) at 154 ⌝ }
     ensures { λ r. ⌜ r ≡ stateOf (resourceAt (now (b .entry)) at) ⌝ }

@@ -84,13 +84,13 @@ pub fn u32_at(b: &[u8], at: usize) -> u32
     swapped_u32(n)
 }
 
-// Two's complement: moved on by half the range and back again, with no test of the sign.
+// Two's complement: moved on by half the range and back again, with no test of the sign. Each takes bits of its own width: the
+// compiler then makes one instruction of it, which extends the sign.
 
-fn signed_16(n: u32) -> i64
-    requires { ⌜ n < 65536 ⌝ }
+fn signed_16(n: u16) -> i64
     ensures { λ v. ⌜ v ≡ signed 32768 n ⌝ }
 {
-    let moved = (n + 32768) % 65536;
+    let moved = std::num::wrapping_add_u16(n, 32768);
     moved as i64 - 32768
 }
 
@@ -106,7 +106,7 @@ pub fn i16_at(b: &[u8], at: usize) -> i64
     ensures { λ r. ⌜ r ≡ i16At (now (b .entry)) at ⌝ }
 {
     let n = u16_at(b, at);
-    signed_16(n)
+    signed_16(n as u16)
 }
 
 pub fn i32_at(b: &[u8], at: usize) -> i64

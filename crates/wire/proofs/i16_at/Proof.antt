@@ -10,4 +10,5 @@ returns : tie.Need-returns
 returns c = rw (toZ-ofZ (sfits-of {w = w64} (c .signed-16 .ok)), c .signed-16 .ensures, c .before .u16-at .ensures .0)
 
 pub i16-at-spec : {M : Type 1} → statement M
-i16-at-spec = tie.close (tie.spec (λ c κs. search needs) (λ c κs. search needs) returns)
+i16-at-spec =
+    tie.close (tie.spec (λ c κs. search needs) (λ c. search needs) (λ c κs. search needs) returns)
