@@ -4,7 +4,10 @@
 use crate::case::{Case, Curve, Step};
 use crate::certificate::{first_above_bound, upper_bounds, Certificate};
 use crate::generate::Pair;
-use crate::layout::{self, Field, HEAD, SHORTEST_CASE, SHORTEST_CERTIFICATE};
+use crate::layout::{
+    self, Field, HEAD, MOST_FLOWGATES, MOST_RESOURCES, MOST_ZONES, SHORTEST_CASE,
+    SHORTEST_CERTIFICATE,
+};
 use crate::random::Random;
 use crate::refusal::Refusal;
 use crate::rows::{index_of, rows};
@@ -136,7 +139,11 @@ pub fn heads(pair: &Pair) -> Vec<Damaged> {
             refusal: Refusal::CertificateVersion,
         });
     }
-    for (at, count) in [(5, 0), (5, 65), (5, 255), (6, 0), (6, 9), (6, 255), (7, 17), (7, 255)] {
+    let most = [MOST_RESOURCES, MOST_ZONES, MOST_FLOWGATES];
+    let [resources, zones, flowgates] = most.map(|most| most as u8 + 1);
+    let wrong =
+        [(5, 0), (5, resources), (5, 255), (6, 0), (6, zones), (6, 255), (7, flowgates), (7, 255)];
+    for (at, count) in wrong {
         list.push(Damaged {
             what: format!("count at byte {at} is {count}"),
             case: with_byte(&case, at, count),
@@ -145,7 +152,6 @@ pub fn heads(pair: &Pair) -> Vec<Damaged> {
         });
     }
     let written = [counts.resources, counts.zones, counts.flowgates];
-    let most = [64, 8, 16];
     for (offset, (count, most)) in written.into_iter().zip(most).enumerate() {
         let other = if count < most { count + 1 } else { count - 1 } as u8;
         list.push(Damaged {
