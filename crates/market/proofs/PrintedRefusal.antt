@@ -6,10 +6,9 @@ use mathlib.Core.Logic.{_↔_, Iff·trans}
 use Prim.Native.Nat.{ℕ, _<_, _≤_}
 use native.Mathlib.Omega.{arith}
 use lib.Dec.{leb}
-use lib.ListN.{length, take, getD, length-append}
+use lib.ListN.{length, getD, length-append}
 use borrow.Author.Tests.{le-leb}
 use Rattle.arith.specs.Sums.{all}
-use Rattle.arith.proofs.Lists.{each-split}
 use Rattle.market.specs.declared.Refusal.{Refusal}
 use Rattle.market.specs.declared.Refusal.the-variants.{AboveBound, RowBroken, InputLength}
 use Rattle.market.specs.declared.Valuation.{Valuation}
@@ -19,16 +18,16 @@ use Rattle.market.specs.CaseFile.{caseOf}
 use Rattle.market.specs.UpperBounds.{quantities}
 use Rattle.market.specs.Rows.{rows}
 use Rattle.market.specs.Certificate.{Certificate, certificateOf}
-use Rattle.market.specs.Refusals.{Finding, clear, holds, unless, placeOf, firstOf, FirstHolds, AllClear, outcomeOf}
-use Rattle.market.specs.Outcome.{caseGrounds, certificateGrounds, grounds, valuation, outcome}
+use Rattle.market.specs.Refusals.{Finding, clear, holds, unless, placeOf, firstOf, FirstHolds, outcomeOf}
+use Rattle.market.specs.Outcome.{Valid, caseGrounds, certificateGrounds, grounds, valuation, outcome}
 use Rattle.market.specs.Program.{caseIn, certificateIn, mostInput, inputGround, programGrounds, refusalLine, report, printed, printedOf}
 use Rattle.market.specs.RefusedExactly.{Exactly, FirstAt, PlacesExactly, acceptedText}
 use Rattle.market.proofs.Grounds.{none-holds, all-clear, first-holds, holds-first}
 use Rattle.market.proofs.LargestCase.{CountRanges}
-use Rattle.market.proofs.Passed.{amountGround, case-passed}
+use Rattle.market.proofs.Passed.{case-passed}
 use Rattle.market.proofs.Ranges.{count-ranges}
 use Rattle.market.proofs.Lengths.{quantity-count, row-count}
-use Rattle.market.proofs.RefusedPlaces.{valid-before, above-bound-at, row-broken-at, places}
+use Rattle.market.proofs.RefusedPlaces.{above-valid, broken-valid, above-bound-at, row-broken-at, places}
 use Rattle.market.proofs.RefusalText.{twentyDigits, line-same, of-place}
 
 -- ---- no place that is found needs twenty digits
@@ -37,20 +36,20 @@ at-most : {A : Type 0} {Fails Passes : A → Type 0} (xs : List A) (p : ℕ) →
 at-most xs p h = omega (arith, h .place, ap (λ l. length l) (h .are), length-append (h .before) (h .this ∷ h .after))
 
 module _ (b q : List ℕ) where
-  counted : AllClear (take 12 (grounds b q)) → CountRanges (caseOf b)
-  counted h = count-ranges (caseOf b) (case-passed b (valid-before b q h) .counts-right)
+  counted : Valid b → CountRanges (caseOf b)
+  counted v = count-ranges (caseOf b) (case-passed b v .counts-right)
 
   bound-place : (p : ℕ) → FirstHolds (grounds b q) (AboveBound p) → p < twentyDigits
   unfolding all caseGrounds certificateGrounds
   bound-place p h =
       let t = above-bound-at b q [] tt tt p .0 h in
-      omega (arith, at-most (quantities (caseOf b)) p (t .first-above), quantity-count (caseOf b), counted (t .none-earlier) .most-resources)
+      omega (arith, at-most (quantities (caseOf b)) p (t .first-above), quantity-count (caseOf b), counted (above-valid b q p t) .most-resources)
 
   row-place : (p : ℕ) → FirstHolds (grounds b q) (RowBroken p) → p < twentyDigits
   unfolding all caseGrounds certificateGrounds
   row-place p h =
       let t = row-broken-at b q [] tt tt p .0 h in
-      let n = counted (each-split (λ g. g ≡ clear) (take 12 (grounds b q)) (amountGround (caseOf b) (certificateOf q) ∷ []) (t .none-earlier) .0) in
+      let n = counted (broken-valid b q p t) in
       omega (arith, at-most (rows (caseOf b)) p (t .first-broken), row-count (caseOf b), n .most-resources, n .most-zones, n .most-flowgates)
 
   place-most : (r : Refusal) → firstOf (grounds b q) ≡ holds r → placeOf r < twentyDigits

@@ -5,7 +5,6 @@ use mathlib.Core.List.{List, [], _∷_, _++_}
 use mathlib.Core.Logic.{_↔_, Iff·trans}
 use Prim.Native.Nat.{ℕ, suc}
 use lib.Dec.{T, eqb, eqb-refl}
-use lib.ListN.{take}
 use Rattle.arith.specs.Sums.{Each, all}
 use Rattle.arith.proofs.Lists.{each-join, each-split}
 use Rattle.arith.proofs.AllTests.{and-split}
@@ -101,9 +100,13 @@ module _ (b q : List ℕ) where
   tests = caseTests b ++ testsFrom8
 
   -- past them the case is valid
-  pub valid-before : AllClear (take 12 (grounds b q)) → Valid b
+  pub above-valid : (p : ℕ) → AboveBoundAt b q p → Valid b
   unfolding caseGrounds certificateGrounds
-  valid-before h = each-split (λ g. g ≡ clear) (caseGrounds b) (findings testsFrom8) h .0
+  above-valid p h = each-split (λ g. g ≡ clear) (caseGrounds b) (findings testsFrom8) (h .none-earlier) .0
+
+  pub broken-valid : (p : ℕ) → RowBrokenAt b q p → Valid b
+  unfolding caseGrounds certificateGrounds
+  broken-valid p h = each-split (λ g. g ≡ clear) (caseGrounds b) (findings testsFrom8 ++ (amountGround c k ∷ [])) (h .none-earlier) .0
 
   -- and tests after 14
   module _ (later : List Test) (not-13 : T (otherTests 13 later)) (not-14 : T (otherTests 14 later)) where

@@ -4,16 +4,11 @@ use mathlib.Core.List.{List}
 use Prim.Native.Nat.{ℕ, zero, suc, _+_, _*_, _<_}
 use native.Mathlib.Omega.{arith}
 use native.Mathlib.Nat.{mul-le-mul-right}
-use lib.ListN.{length}
-use lib.Dec.{eqb→eq}
-use Rattle.market.specs.declared.Refusal.the-variants.{CaseSize}
 use Rattle.market.specs.Bytes.{u8At}
 use Rattle.market.specs.Case.{curveNumber, curveNumbered}
-use Rattle.market.specs.CaseFile.{caseOf, caseSize}
-use Rattle.market.specs.CaseCheck.{caseSizeRight}
-use Rattle.market.specs.Outcome.{Valid, caseGrounds}
-use Rattle.market.proofs.Grounds.{unless-clear}
-use Rattle.market.proofs.Ranges.{valid-ranges}
+use Rattle.market.specs.CaseFile.{caseOf}
+use Rattle.market.specs.Outcome.{Valid}
+use Rattle.wire.proofs.WholeCase.{valid-case}
 use Rattle.records.specs.Places.{CaseBytes, HeadIn, CurveIn, ZoneIn, ResourceIn, FlowgateIn, FactorIn}
 
 pub number-is : (k : ℕ) → k < 4 → curveNumber (curveNumbered k) ≡ k
@@ -56,18 +51,8 @@ module _ {b : List ℕ} {r z f : ℕ} (whole : CaseBytes b r z f) where
 
 -- a valid case, with the counts of its bytes
 pub valid-bytes : (b : List ℕ) → Valid b → CaseBytes b (u8At b 5) (u8At b 6) (u8At b 7)
-unfolding caseGrounds caseSizeRight caseOf
-valid-bytes b v =
-    let counts = valid-ranges b v .counts in
-    record {
-      resources = refl;
-      zones = refl;
-      flowgates = refl;
-      most-resources = counts .most-resources;
-      most-zones = counts .most-zones;
-      most-flowgates = counts .most-flowgates;
-      size = eqb→eq (length b) (caseSize (u8At b 5) (u8At b 6) (u8At b 7)) (unless-clear (caseSizeRight b (caseOf b)) CaseSize (v .1 .1 .1 .0));
-    }
+unfolding caseOf
+valid-bytes b v = valid-case b v
 
 -- and with counts that are those
 pub counted-bytes : (b : List ℕ) → Valid b → {r z f : ℕ} → r ≡ u8At b 5 → z ≡ u8At b 6 → f ≡ u8At b 7 → CaseBytes b r z f

@@ -2,3 +2,4 @@ pub mod ByteOrder
 pub mod Half
 pub mod SignedBits
 pub mod Stores
+pub mod WholeCase
