@@ -7,19 +7,21 @@ use Prim.Native.Nat.{ℕ, _+_, _≤_}
 use native.Mathlib.Omega.{arith}
 use lib.Dec.{T, leb, eqb, leb→le}
 use lib.ListN.{length}
-use borrow.Author.Tests.{eqb-true}
-use Rattle.arith.proofs.AllTests.{and-split, and-each}
+use Rattle.arith.proofs.AllTests.{and-split}
 use Rattle.market.specs.declared.Refusal.{Refusal}
 use Rattle.market.specs.declared.Refusal.the-variants as R
 use Rattle.market.specs.declared.Counts.{Counts}
-use Rattle.market.specs.Bytes.{u8At, u32At, within}
-use Rattle.market.specs.CaseFile.{caseOf, caseSize}
+use Rattle.market.specs.Bytes.{u32At}
+use Rattle.market.specs.CaseFile.{caseOf}
 use Rattle.market.specs.CaseCheck.{mostResources, mostZones, mostFlowgates, lengthRight, versionRight, countsRight, caseSizeRight, fieldsInRange, stepsRule, limitsOrdered}
 use Rattle.market.specs.Records.{countsIn}
 use Rattle.market.specs.Refusals.{Finding, clear, holds, unless, firstOf}
 use Rattle.market.specs.Outcome.{caseGrounds, Valid}
 use Rattle.market.proofs.Grounds.{none-holds}
+use Rattle.market.proofs.Passed.{Test, findings, caseTests}
+use Rattle.market.proofs.Ranges.{counts-most}
 use Rattle.wire.specs.CaseBytes.{CaseBytes}
+use Rattle.wire.proofs.WholeCase.{whole-case, valid-case}
 use Rattle.cases.specs.declared.Stage.{Stage}
 use Rattle.cases.specs.declared.Stage.the-variants.{Passed, Refused}
 use Rattle.cases.specs.Stages.{stageOf, tested, shapeOf, Shaped, Staged}
@@ -31,30 +33,8 @@ length-from b e =
     let t : T (lengthRight 170 b) = rw e tt in
     leb→le 170 (length b) (and-split (leb 170 (length b)) (eqb (u32At b 0 + 4) (length b)) t .0)
 
-at-most : (low high n : ℕ) → T (within low high n) → n ≤ high
-at-most low high n t = leb→le n high (and-split (leb low n) (leb n high) t .1)
-
 pub counts-from : (r z f : ℕ) → countsRight r z f ≡ true → (r ≤ mostResources) × (z ≤ mostZones) × (f ≤ mostFlowgates)
-unfolding countsRight
-counts-from r z f e =
-    let t : T (countsRight r z f) = rw e tt in
-    let h = and-each (within 1 mostResources r) (within 1 mostZones z ∷ within 0 mostFlowgates f ∷ []) t in
-    (at-most 1 mostResources r (h .0), at-most 1 mostZones z (h .1 .0), at-most 0 mostFlowgates f (h .1 .1 .0))
-
--- ---- a file past 1 to 4
-case-bytes : (b : List ℕ) → countsRight (caseOf b .resources) (caseOf b .zones) (caseOf b .flowgates) ≡ true → caseSizeRight b (caseOf b) ≡ true → CaseBytes b (caseOf b .resources) (caseOf b .zones) (caseOf b .flowgates)
-unfolding caseOf caseSizeRight
-case-bytes b h k =
-    let m = counts-from (u8At b 5) (u8At b 6) (u8At b 7) h in
-    record {
-      resources = refl;
-      zones = refl;
-      flowgates = refl;
-      most-resources = m .0;
-      most-zones = m .1;
-      most-flowgates = m .2;
-      size = eqb-true (length b) (caseSize (u8At b 5) (u8At b 6) (u8At b 7)) k;
-    }
+counts-from r z f e = counts-most r z f (subst T (sym e) tt)
 
 -- ---- one test more
 pub not-passed : {A : Type 0} {n : Counts} {w : Refusal} → Refused w ≡ Passed n → A
@@ -89,7 +69,7 @@ shape-bytes b n e =
     let version = passed-test _ (versionRight b) R.CaseVersion n (counts .1) in
     let long = passed-test _ (lengthRight 170 b) R.CaseLength n (version .1) in
     let same : countsIn (caseOf b) ≡ n = cc in
-    subst (λ (k : Counts). CaseBytes b (k .resources) (k .zones) (k .flowgates)) same (case-bytes b (counts .0) (size .0))
+    subst (λ (k : Counts). CaseBytes b (k .resources) (k .zones) (k .flowgates)) same (whole-case b (subst T (sym (counts .0)) tt) (subst T (sym (size .0)) tt))
 
 pub shape : {b : List ℕ} {r : Stage} → r ≡ shapeOf b → (r ≡ shapeOf b) × Shaped b r
 shape {b} {r} e = (e, record { bytes = λ n h. shape-bytes b n (sym e ∙ h) })
@@ -98,21 +78,28 @@ pub staged : {b : List ℕ} {s : Stage} {t : Bool} {w : Refusal} {r : Stage} →
 staged {b} {s} {t} {w} {r} h e = record { answer = e; shaped = record { bytes = λ n k. h .bytes n (passed-test s t w n (sym e ∙ k) .1) } }
 
 -- ---- the stages are the grounds in their order
-first-by : (n : Counts) (s t u v x y z : Bool) → tested (tested (tested (tested (tested (tested (tested (Passed n) s R.CaseLength) t R.CaseVersion) u R.Counts) v R.CaseSize) x R.FieldRange) y R.StepRule) z R.LimitPair ≡ stageOf n (firstOf (unless s R.CaseLength ∷ unless t R.CaseVersion ∷ unless u R.Counts ∷ unless v R.CaseSize ∷ unless x R.FieldRange ∷ unless y R.StepRule ∷ unless z R.LimitPair ∷ []))
+-- the tests ts, one after the other, where the earlier ones have answered s
+abbrev testedBy : Stage → List Test → Stage
+testedBy s [] = s
+testedBy s (t ∷ ts) = testedBy (tested s (t .passes) (t .refusal)) ts
+
+refused-stays : (w : Refusal) (ts : List Test) → testedBy (Refused w) ts ≡ Refused w
+unfolding tested
+refused-stays w [] = refl
+refused-stays w (t ∷ ts) = refused-stays w ts
+
+in-order : (n : Counts) (ts : List Test) → testedBy (Passed n) ts ≡ stageOf n (firstOf (findings ts))
 unfolding firstOf tested
-first-by n false t u v x y z = refl
-first-by n true false u v x y z = refl
-first-by n true true false v x y z = refl
-first-by n true true true false x y z = refl
-first-by n true true true true false y z = refl
-first-by n true true true true true false z = refl
-first-by n true true true true true true false = refl
-first-by n true true true true true true true = refl
+in-order n [] = refl
+in-order n (t ∷ ts) = go (t .passes) (in-order n ts)
+  where
+    go : (p : Bool) → testedBy (Passed n) ts ≡ stageOf n (firstOf (findings ts)) → testedBy (tested (Passed n) p (t .refusal)) ts ≡ stageOf n (firstOf (unless p (t .refusal) ∷ findings ts))
+    go true later = later
+    go false later = refused-stays (t .refusal) ts
 
 pub stages-are : (b : List ℕ) → tested (tested (tested (shapeOf b) (fieldsInRange (caseOf b)) R.FieldRange) (stepsRule (caseOf b)) R.StepRule) (limitsOrdered (caseOf b)) R.LimitPair ≡ stageOf (countsIn (caseOf b)) (firstOf (caseGrounds b))
 unfolding shapeOf caseGrounds
-stages-are b =
-    first-by (countsIn (caseOf b)) (lengthRight 170 b) (versionRight b) (countsRight (caseOf b .resources) (caseOf b .zones) (caseOf b .flowgates)) (caseSizeRight b (caseOf b)) (fieldsInRange (caseOf b)) (stepsRule (caseOf b)) (limitsOrdered (caseOf b))
+stages-are b = in-order (countsIn (caseOf b)) (caseTests b)
 
 -- ---- what a caller learns
 pub passed-clear : (m n : Counts) (f : Finding) → stageOf m f ≡ Passed n → (f ≡ clear) × (n ≡ m)
@@ -131,7 +118,4 @@ module _ (b : List ℕ) (n : Counts) (h : stageOf (countsIn (caseOf b)) (firstOf
   passed-counts = passed-clear (countsIn (caseOf b)) n (firstOf (caseGrounds b)) h .1
 
   pub passed-bytes : CaseBytes b (n .resources) (n .zones) (n .flowgates)
-  passed-bytes =
-      let limits = passed-test _ (limitsOrdered (caseOf b)) R.LimitPair n (stages-are b ∙ h) in
-      let steps = passed-test _ (stepsRule (caseOf b)) R.StepRule n (limits .1) in
-      shape-bytes b n (passed-test (shapeOf b) (fieldsInRange (caseOf b)) R.FieldRange n (steps .1) .1)
+  passed-bytes = subst (λ (m : Counts). CaseBytes b (m .resources) (m .zones) (m .flowgates)) (sym passed-counts) (valid-case b passed-valid)

@@ -15,8 +15,8 @@ use Rattle.market.specs.Certificate.{certificateOf, certificateSize}
 use Rattle.market.specs.Records.{countsIn}
 use Rattle.market.specs.Refusals.{firstOf, AllClear}
 use Rattle.market.specs.Outcome.{sameCounts}
-use Rattle.market.proofs.Grounds.{unless-clear}
 use Rattle.market.proofs.LargestCase.{CountRanges}
+use Rattle.market.proofs.Passed.{form-passed}
 use Rattle.cases.specs.Stages.{stageOf}
 use Rattle.cases.specs.declared.Stage.the-variants.{Passed, Refused}
 use Rattle.entries.specs.CertificateBytes.{CertificateBytes}
@@ -62,8 +62,8 @@ module _ (q : List ℕ) (n : Counts) (c : Case) (e : n ≡ countsIn c) where
 pub form-bytes : (q : List ℕ) (c : Case) → CountRanges c → AllClear (formGrounds c q) → CertificateBytes q (c .resources) (c .zones) (c .flowgates)
 unfolding formGrounds sameCounts certificateOf
 form-bytes q c h clear =
-    let counts = and-each (eqb (u8At q 5) (c .resources)) (eqb (u8At q 6) (c .zones) ∷ eqb (u8At q 7) (c .flowgates) ∷ []) (unless-clear (sameCounts c (certificateOf q)) R.CountsDiffer (clear .1 .1 .0)) in
-    let size = unless-clear (eqb (length q) (certificateSize (c .resources) (c .zones) (c .flowgates))) R.CertificateSize (clear .1 .1 .1 .0) in
+    let passed = form-passed c q (certificateOf q) clear in
+    let counts = and-each (eqb (u8At q 5) (c .resources)) (eqb (u8At q 6) (c .zones) ∷ eqb (u8At q 7) (c .flowgates) ∷ []) (passed .same-counts) in
     record {
       resources-are = eqb→eq (u8At q 5) (c .resources) (counts .0);
       zones-are = eqb→eq (u8At q 6) (c .zones) (counts .1 .0);
@@ -71,5 +71,5 @@ form-bytes q c h clear =
       resources-most = h .most-resources;
       zones-most = h .most-zones;
       flowgates-most = h .most-flowgates;
-      sized = eqb→eq (length q) (certificateSize (c .resources) (c .zones) (c .flowgates)) size;
+      sized = eqb→eq (length q) (certificateSize (c .resources) (c .zones) (c .flowgates)) (passed .size-right);
     }
