@@ -12,8 +12,8 @@ use Rattle.market.specs.declared.Refusal.{Refusal}
 use Rattle.market.specs.declared.Refusal.the-variants as R
 use Rattle.market.specs.declared.Counts.{Counts}
 use Rattle.market.specs.Bytes.{u32At}
-use Rattle.market.specs.CaseFile.{caseOf}
-use Rattle.market.specs.CaseCheck.{mostResources, mostZones, mostFlowgates, lengthRight, versionRight, countsRight, caseSizeRight, fieldsInRange, stepsRule, limitsOrdered}
+use Rattle.market.specs.CaseFile.{leastCaseSize, caseOf}
+use Rattle.market.specs.CaseCheck.{CountsWithin, lengthRight, versionRight, countsRight, caseSizeRight, fieldsInRange, stepsRule, limitsOrdered}
 use Rattle.market.specs.Records.{countsIn}
 use Rattle.market.specs.Refusals.{Finding, clear, holds, unless, firstOf}
 use Rattle.market.specs.Outcome.{caseGrounds, Valid}
@@ -27,13 +27,13 @@ use Rattle.cases.specs.declared.Stage.the-variants.{Passed, Refused}
 use Rattle.cases.specs.Stages.{stageOf, tested, shapeOf, Shaped, Staged}
 
 -- ---- from tests to inequalities
-pub length-from : (b : List ℕ) → lengthRight 170 b ≡ true → 170 ≤ length b
+pub length-from : (b : List ℕ) → lengthRight leastCaseSize b ≡ true → leastCaseSize ≤ length b
 unfolding lengthRight
 length-from b e =
-    let t : T (lengthRight 170 b) = rw e tt in
-    leb→le 170 (length b) (and-split (leb 170 (length b)) (eqb (u32At b 0 + 4) (length b)) t .0)
+    let t : T (lengthRight leastCaseSize b) = rw e tt in
+    leb→le leastCaseSize (length b) (and-split (leb leastCaseSize (length b)) (eqb (u32At b 0 + 4) (length b)) t .0)
 
-pub counts-from : (r z f : ℕ) → countsRight r z f ≡ true → (r ≤ mostResources) × (z ≤ mostZones) × (f ≤ mostFlowgates)
+pub counts-from : (r z f : ℕ) → countsRight r z f ≡ true → CountsWithin r z f
 counts-from r z f e = counts-most r z f (subst T (sym e) tt)
 
 -- ---- one test more
@@ -67,7 +67,7 @@ shape-bytes b n e =
     let size = passed-test _ (caseSizeRight b (caseOf b)) R.CaseSize n e in
     let counts = passed-test _ (countsRight (caseOf b .resources) (caseOf b .zones) (caseOf b .flowgates)) R.Counts n (size .1) in
     let version = passed-test _ (versionRight b) R.CaseVersion n (counts .1) in
-    let long = passed-test _ (lengthRight 170 b) R.CaseLength n (version .1) in
+    let long = passed-test _ (lengthRight leastCaseSize b) R.CaseLength n (version .1) in
     let same : countsIn (caseOf b) ≡ n = cc in
     subst (λ (k : Counts). CaseBytes b (k .resources) (k .zones) (k .flowgates)) same (whole-case b (subst T (sym (counts .0)) tt) (subst T (sym (size .0)) tt))
 

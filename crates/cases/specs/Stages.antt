@@ -7,7 +7,7 @@ use Prim.Native.Nat.{ℕ}
 use Rattle.market.specs.declared.Refusal.{Refusal}
 use Rattle.market.specs.declared.Refusal.the-variants as R
 use Rattle.market.specs.declared.Counts.{Counts}
-use Rattle.market.specs.CaseFile.{caseOf}
+use Rattle.market.specs.CaseFile.{leastCaseSize, caseOf}
 use Rattle.market.specs.CaseCheck.{lengthRight, versionRight, countsRight, caseSizeRight}
 use Rattle.market.specs.Records.{countsIn}
 use Rattle.market.specs.Refusals.{Finding, clear, holds}
@@ -31,7 +31,7 @@ shapeOf b =
     tested
     (tested
     (tested
-    (tested (Passed (countsIn (caseOf b))) (lengthRight 170 b) R.CaseLength)
+    (tested (Passed (countsIn (caseOf b))) (lengthRight leastCaseSize b) R.CaseLength)
     (versionRight b)
     R.CaseVersion)
     (countsRight (caseOf b .resources) (caseOf b .zones) (caseOf b .flowgates))

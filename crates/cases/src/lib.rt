@@ -2,7 +2,13 @@
 // (01, 'How each operation refuses'). `case_stage` is what the other operations start from.
 use market::CaseAnswer;
 use market::Counts;
+use market::HEAD_SIZE;
+use market::MOST_FLOWGATES;
+use market::MOST_RESOURCES;
+use market::MOST_ZONES;
+use market::RESOURCE_SIZE;
 use market::Refusal;
+use market::ZONE_SIZE;
 ghost use mathlib.Core.Path.{_≡_};
 ghost use Prim.Native.Nat.{_+_, _*_, _<_, _≤_};
 ghost use lib.Dec.{leb, eqb};
@@ -13,8 +19,8 @@ ghost use Rattle.arith.specs.Sums.{upto, all};
 ghost use Rattle.market.specs.declared.Refusal.the-variants.{FieldRange, StepRule, LimitPair};
 ghost use Rattle.market.specs.Bytes.{u8At, u32At, signed, within};
 ghost use Rattle.market.specs.Case.{energySteps, widthOf};
-ghost use Rattle.market.specs.CaseFile.{caseOf, resourceAt, caseSize};
-ghost use Rattle.market.specs.CaseCheck.{lengthRight, versionRight, countsRight, fieldsInRange, stepsFollow, stepsRule, energyStepsRight, pairsOrdered, limitsOrdered};
+ghost use Rattle.market.specs.CaseFile.{headSize, resourceSize, zonePlace, caseSize, leastCaseSize, resourceAt, caseOf};
+ghost use Rattle.market.specs.CaseCheck.{CountsWithin, lengthRight, versionRight, countsRight, fieldsInRange, stepsFollow, stepsRule, energyStepsRight, pairsOrdered, limitsOrdered};
 ghost use Rattle.market.specs.Records.{countsIn};
 ghost use Rattle.market.specs.Refusals.{firstOf};
 ghost use Rattle.market.specs.Outcome.{caseGrounds, caseAnswer};
@@ -49,7 +55,7 @@ fn not_above(a: u32, b: u32) -> bool
 
 // The first step has none before it.
 fn offer_starts(b: &[u8], at: usize) -> bool
-    requires { ⌜ Within (now b) at 154 ⌝ }
+    requires { ⌜ Within (now b) at resourceSize ⌝ }
     ensures { λ t. ⌜ t ≡ offerStarts (resourceAt (now (b .entry)) at) ⌝ }
 {
     let width = wire::u32_at(b, at + 74);
@@ -70,7 +76,7 @@ fn offer_step_follows(b: &[u8], at: usize, j: usize) -> bool
 
 // Every step is looked at, also after one that fails: nine tests in a row cost less than nine ways out.
 fn offer_follows(b: &[u8], at: usize) -> bool
-    requires { ⌜ Within (now b) at 154 ⌝ }
+    requires { ⌜ Within (now b) at resourceSize ⌝ }
     ensures { λ t. ⌜ t ≡ all (offerFollows (resourceAt (now (b .entry)) at)) (upto 9) ⌝ }
 {
     let mut right = true;
@@ -90,7 +96,7 @@ pub fn wide(x: u32) -> u64
 }
 
 fn offer_width(b: &[u8], at: usize) -> u64
-    requires { ⌜ Within (now b) at 154 ⌝ }
+    requires { ⌜ Within (now b) at resourceSize ⌝ }
     ensures { λ r. ⌜ r ≡ widthOf (resourceAt (now (b .entry)) at .stepWidth) energySteps ⌝ }
 {
     let mut sum: u64 = 0;
@@ -103,7 +109,7 @@ fn offer_width(b: &[u8], at: usize) -> u64
 }
 
 fn offer_right(b: &[u8], at: usize) -> bool
-    requires { ⌜ Within (now b) at 154 ⌝ }
+    requires { ⌜ Within (now b) at resourceSize ⌝ }
     ensures { λ t. ⌜ t ≡ energyStepsRight (resourceAt (now (b .entry)) at) ⌝ }
 {
     if !offer_starts(b, at) {
@@ -116,12 +122,12 @@ fn offer_right(b: &[u8], at: usize) -> bool
 }
 
 fn offers_right(b: &[u8], resources: usize, zones: usize) -> bool
-    requires { ⌜ Within (now b) (170 + zones * 16) (resources * 154) ⌝ }
+    requires { ⌜ Within (now b) (zonePlace zones) (resources * resourceSize) ⌝ }
     ensures { λ t. ⌜ t ≡ all (offerRight (now (b .entry)) zones) (upto resources) ⌝ }
 {
     let mut i: usize = 0;
     while i < resources {
-        if !offer_right(b, 170 + zones * 16 + i * 154) {
+        if !offer_right(b, HEAD_SIZE + zones * ZONE_SIZE + i * RESOURCE_SIZE) {
             return false;
         }
         i += 1;
@@ -174,7 +180,7 @@ fn curve_right(b: &[u8], curve: usize) -> bool
 }
 
 fn curves_right(b: &[u8]) -> bool
-    requires { ⌜ Within (now b) 0 170 ⌝ }
+    requires { ⌜ Within (now b) 0 headSize ⌝ }
     ensures { λ t. ⌜ t ≡ all (curveRight (now (b .entry))) (upto 4) ⌝ }
 {
     let mut curve: usize = 0;
@@ -208,7 +214,7 @@ fn ordered(b: &[u8], low: usize, high: usize) -> bool
 }
 
 fn pairs_ordered(b: &[u8], at: usize) -> bool
-    requires { ⌜ Within (now b) at 154 ⌝ }
+    requires { ⌜ Within (now b) at resourceSize ⌝ }
     ensures { λ t. ⌜ t ≡ pairsOrdered (resourceAt (now (b .entry)) at) ⌝ }
 {
     // economic, regulating, emergency
@@ -222,12 +228,12 @@ fn pairs_ordered(b: &[u8], at: usize) -> bool
 }
 
 fn limits_right(b: &[u8], resources: usize, zones: usize) -> bool
-    requires { ⌜ Within (now b) (170 + zones * 16) (resources * 154) ⌝ }
+    requires { ⌜ Within (now b) (zonePlace zones) (resources * resourceSize) ⌝ }
     ensures { λ t. ⌜ t ≡ all (limitsRight (now (b .entry)) zones) (upto resources) ⌝ }
 {
     let mut i: usize = 0;
     while i < resources {
-        if !pairs_ordered(b, 170 + zones * 16 + i * 154) {
+        if !pairs_ordered(b, HEAD_SIZE + zones * ZONE_SIZE + i * RESOURCE_SIZE) {
             return false;
         }
         i += 1;
@@ -246,9 +252,9 @@ fn limits_ordered(b: &[u8], n: Counts) -> bool
 
 // ---- 1 to 4: the file's shape
 fn length_right(b: &[u8]) -> bool
-    ensures { λ t. ⌜ t ≡ lengthRight 170 (now (b .entry)) ⌝ }
+    ensures { λ t. ⌜ t ≡ lengthRight leastCaseSize (now (b .entry)) ⌝ }
 {
-    if b.len() < 170 {
+    if b.len() < HEAD_SIZE {
         return false;
     }
     wide(wire::u32_at(b, 0)) + 4 == b.len() as u64
@@ -288,23 +294,20 @@ fn count_right(count: usize, least: usize, most: usize) -> bool
 pub fn counts_right(n: Counts) -> bool
     ensures { λ t. ⌜ t ≡ countsRight (n .resources) (n .zones) (n .flowgates) ⌝ }
 {
-    if !count_right(n.resources, 1, 64) {
+    if !count_right(n.resources, 1, MOST_RESOURCES) {
         return false;
     }
-    if !count_right(n.zones, 1, 8) {
+    if !count_right(n.zones, 1, MOST_ZONES) {
         return false;
     }
-    count_right(n.flowgates, 0, 16)
+    count_right(n.flowgates, 0, MOST_FLOWGATES)
 }
 
 fn size_right(b: &[u8], n: Counts) -> bool
-    requires { ⌜ (n .resources ≤ 64) × (n .zones ≤ 8) × (n .flowgates ≤ 16) ⌝ }
+    requires { ⌜ CountsWithin (n .resources) (n .zones) (n .flowgates) ⌝ }
     ensures { λ t. ⌜ t ≡ eqb (length (now (b .entry))) (caseSize (n .resources) (n .zones) (n .flowgates)) ⌝ }
 {
-    let resources = n.resources;
-    let zones = n.zones;
-    let flowgates = n.flowgates;
-    b.len() == 170 + zones * 16 + resources * 154 + flowgates * (4 + resources * 2)
+    b.len() == market::case_size(n.resources, n.zones, n.flowgates)
 }
 
 // ---- the stages

@@ -75,7 +75,7 @@ module _ {b q : List ℕ} {r z f : ℕ} (s : Standing b q r z f) where
   resources-size n l = upto-size (resourceWorth c x) 10400000000000 n (λ i k. resource-size i (omega arith))
 
   pub resources-room : (n : ℕ) → n < r → SumRoom (sumOf (resourceWorth c x) (upto n)) (resourceWorth c x n)
-  resources-room n l = omega (arith, resources-size n (omega arith), resource-size n l, s .prices .case-bytes .most-resources)
+  resources-room n l = omega (arith, resources-size n (omega arith), resource-size n l, s .prices .case-bytes .counts .most-resources)
 
   -- ---- curves
   pub curve-known : (k : Curve) → RangedCurve (curveStepsOf c k)
@@ -103,8 +103,8 @@ module _ {b q : List ℕ} {r z f : ℕ} (s : Standing b q r z f) where
   curves-fit = omega (arith, curves-size)
 
   pub cost-room : SumRoom (sumOf (resourceWorth c x) (upto r)) (negℤ (sumOf (curveValue c x) curves))
-  cost-room = omega (arith, resources-size r (omega arith), curves-size, abs-neg (sumOf (curveValue c x) curves), s .prices .case-bytes .most-resources)
+  cost-room = omega (arith, resources-size r (omega arith), curves-size, abs-neg (sumOf (curveValue c x) curves), s .prices .case-bytes .counts .most-resources)
 
   pub grains-room : natAbs (sumOf (resourceWorth c x) (upto r) -ℤ sumOf (curveValue c x) curves) ≤ 1000000000000000
   grains-room =
-      omega (arith, abs-sub (sumOf (resourceWorth c x) (upto r)) (sumOf (curveValue c x) curves), resources-size r (omega arith), curves-size, s .prices .case-bytes .most-resources)
+      omega (arith, abs-sub (sumOf (resourceWorth c x) (upto r)) (sumOf (curveValue c x) curves), resources-size r (omega arith), curves-size, s .prices .case-bytes .counts .most-resources)

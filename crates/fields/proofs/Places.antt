@@ -7,9 +7,8 @@ use native.Mathlib.Omega.{arith}
 use lib.ListN.{length, getD, replicate, length-append, length-replicate}
 use Rattle.arith.specs.Sums.{Each, across, upto}
 use Rattle.arith.proofs.Lists.{each-join, each-across, each-any, length-upto}
-use Rattle.market.specs.Numbers.{Field, u8, u32, i16, i32, times, headFields, resourceFields, flowgateFields, caseFields, certificateFields}
+use Rattle.market.specs.Numbers.{Field, u8, u32, i16, i32, times, headFields, resourceFields, flowgateFields, caseFields, curveFields, certificateHeadFields, entryFields, certificateFields}
 use Rattle.market.proofs.FileSizes.{times-length, case-count}
-use Rattle.fields.specs.Layout.{certificateHead}
 use Rattle.fields.proofs.Entries.{entry-first, entry-later, entry-repeated, entry-each}
 
 -- ---- the same fields n times
@@ -37,7 +36,7 @@ resource-entry r j l = times-entry r resourceFields j (omega arith)
 -- ---- a case: its head, then zones, resources and flowgates
 module _ (r z f k : ℕ) where
   abbrev zonePart : List Field
-  zonePart = times z (replicate 4 u32)
+  zonePart = times z curveFields
 
   abbrev resourcePart : List Field
   resourcePart = times r resourceFields
@@ -46,7 +45,7 @@ module _ (r z f k : ℕ) where
   flowgatePart = times f (flowgateFields r)
 
   zones-long : length zonePart ≡ 4 * z
-  zones-long = omega (arith, times-length z (replicate 4 u32))
+  zones-long = omega (arith, times-length z curveFields)
 
   resources-long : length resourcePart ≡ 43 * r
   unfolding times across upto
@@ -76,7 +75,7 @@ module _ (r z f k : ℕ) where
 
   pub case-zone : 48 ≤ k → k < 48 + 4 * z → getD (caseFields r z f) k u8 ≡ u32
   case-zone h l =
-      let each = times-each (λ x. x ≡ u32) z (replicate 4 u32) (same-each 4 u32) in
+      let each = times-each (λ x. x ≡ u32) z curveFields (same-each 4 u32) in
       past-head h
       ∙ entry-first u8 zonePart (resourcePart ++ flowgatePart) (k - 48) (omega (arith, zones-long))
       ∙ entry-each u8 (λ x. x ≡ u32) zonePart each (k - 48) (omega (arith, zones-long))
@@ -109,17 +108,17 @@ isU32 x = x ≡ u32
 
 module _ (r z f k : ℕ) where
   abbrev certificateRest : List Field
-  certificateRest = times z (replicate 4 u32) ++ (times f (u32 ∷ []) ++ times r (replicate 10 u32))
+  certificateRest = times z curveFields ++ (times f (u32 ∷ []) ++ times r entryFields)
 
   rest-each : Each isU32 certificateRest
   rest-each =
-      each-join isU32 (times z (replicate 4 u32)) (times f (u32 ∷ []) ++ times r (replicate 10 u32)) (times-each isU32 z (replicate 4 u32) (same-each 4 u32))
-      (each-join isU32 (times f (u32 ∷ [])) (times r (replicate 10 u32)) (times-each isU32 f (u32 ∷ []) (refl, tt)) (times-each isU32 r (replicate 10 u32) (same-each 10 u32)))
+      each-join isU32 (times z curveFields) (times f (u32 ∷ []) ++ times r entryFields) (times-each isU32 z curveFields (same-each 4 u32))
+      (each-join isU32 (times f (u32 ∷ [])) (times r entryFields) (times-each isU32 f (u32 ∷ []) (refl, tt)) (times-each isU32 r entryFields (same-each 10 u32)))
 
-  pub certificate-head : k < 12 → getD (certificateFields r z f) k u8 ≡ getD certificateHead k u8
+  pub certificate-head : k < 12 → getD (certificateFields r z f) k u8 ≡ getD certificateHeadFields k u8
   unfolding certificateFields
-  certificate-head h = entry-first u8 certificateHead certificateRest k h
+  certificate-head h = entry-first u8 certificateHeadFields certificateRest k h
 
   pub certificate-rest : 12 ≤ k → k < length (certificateFields r z f) → getD (certificateFields r z f) k u8 ≡ u32
   unfolding certificateFields
-  certificate-rest h l = entry-later u8 certificateHead certificateRest 12 k refl h ∙ entry-each u8 isU32 certificateRest rest-each (k - 12) (omega (arith, length-append certificateHead certificateRest))
+  certificate-rest h l = entry-later u8 certificateHeadFields certificateRest 12 k refl h ∙ entry-each u8 isU32 certificateRest rest-each (k - 12) (omega (arith, length-append certificateHeadFields certificateRest))

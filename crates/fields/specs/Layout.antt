@@ -1,6 +1,4 @@
 -- The code's fields and files as those of market's Numbers.
-use mathlib.Core.List.{List, _∷_, _++_}
-use lib.ListN.{replicate}
 use Rattle.market.specs.Numbers.{Field, u8, u16, u32, i16, i32, FieldsOf, caseFields, certificateFields}
 use Rattle.fields.specs.declared.File.{File}
 use Rattle.fields.specs.declared.File.the-variants.{Case, Certificate}
@@ -18,7 +16,3 @@ fieldOf K.I32 = i32
 abbrev pub fieldsOf : File → FieldsOf
 fieldsOf Case = caseFields
 fieldsOf Certificate = certificateFields
-
--- a certificate's fields before those of its zones
-abbrev pub certificateHead : List Field
-certificateHead = u8 ∷ u8 ∷ u8 ∷ replicate 4 u32 ++ (i32 ∷ replicate 4 u32)

@@ -4,9 +4,10 @@ ghost use mathlib.Core.Path.{_≡_};
 ghost use Prim.Native.Nat.{ℕ, _<_, _≤_};
 ghost use lib.ListN.{length, getD};
 ghost use Rattle.market.specs.Bytes.{withinℤ};
-ghost use Rattle.market.specs.Numbers.{u8, fieldWidth, fieldLow, fieldHigh, fieldAt, headFields, resourceFields, caseFields, certificateFields};
+ghost use Rattle.market.specs.CaseCheck.{mostResources, mostZones, CountsWithin};
+ghost use Rattle.market.specs.Numbers.{u8, fieldWidth, fieldLow, fieldHigh, fieldAt, headFields, resourceFields, caseFields, certificateHeadFields, certificateFields};
 ghost use Rattle.wire.specs.Within.{Within};
-ghost use Rattle.fields.specs.Layout.{fieldOf, fieldsOf, certificateHead};
+ghost use Rattle.fields.specs.Layout.{fieldOf, fieldsOf};
 
 // Unsigned or in two's complement, big-endian.
 pub enum Field {
@@ -214,14 +215,14 @@ fn resource_field(k: usize) -> Field
 
 fn certificate_head_field(k: usize) -> Field
     requires { ⌜ k < 12 ⌝ }
-    ensures { λ r. ⌜ fieldOf r ≡ getD certificateHead k u8 ⌝ }
+    ensures { λ r. ⌜ fieldOf r ≡ getD certificateHeadFields k u8 ⌝ }
 {
     CERTIFICATE_HEAD[k]
 }
 
 // ---- the k-th number's field, for any number of flowgates
 fn case_field(resources: usize, zones: usize, k: usize) -> Field
-    requires { ⌜ (resources ≤ 64) × (zones ≤ 8) ⌝ }
+    requires { ⌜ (resources ≤ mostResources) × (zones ≤ mostZones) ⌝ }
     ensures { λ r. ⌜ ((f : ℕ) → k < length (caseFields resources zones f) → fieldOf r ≡ getD (caseFields resources zones f) k u8) ⌝ }
 {
     if k < 48 {
@@ -252,7 +253,7 @@ fn certificate_field(k: usize) -> Field
 }
 
 pub fn field_of(file: File, resources: usize, zones: usize, k: usize) -> Field
-    requires { ⌜ (resources ≤ 64) × (zones ≤ 8) ⌝ }
+    requires { ⌜ (resources ≤ mostResources) × (zones ≤ mostZones) ⌝ }
     ensures { λ r. ⌜ ((f : ℕ) → k < length (fieldsOf file resources zones f) → fieldOf r ≡ getD (fieldsOf file resources zones f) k u8) ⌝ }
 {
     match file {
@@ -263,7 +264,7 @@ pub fn field_of(file: File, resources: usize, zones: usize, k: usize) -> Field
 
 // How many numbers a file has.
 pub fn count(file: File, resources: usize, zones: usize, flowgates: usize) -> usize
-    requires { ⌜ (resources ≤ 64) × (zones ≤ 8) × (flowgates ≤ 16) ⌝ }
+    requires { ⌜ CountsWithin resources zones flowgates ⌝ }
     ensures { λ r. ⌜ r ≡ length (fieldsOf file resources zones flowgates) ⌝ }
 {
     match file {

@@ -11,7 +11,7 @@ use Rattle.market.specs.declared.Counts.{Counts}
 use Rattle.market.specs.Bytes.{u8At, u32At}
 use Rattle.market.specs.Case.{Case}
 use Rattle.market.specs.CaseCheck.{lengthRight, versionRight}
-use Rattle.market.specs.Certificate.{certificateOf, certificateSize}
+use Rattle.market.specs.Certificate.{leastCertificateSize, certificateOf, certificateSize}
 use Rattle.market.specs.Records.{countsIn}
 use Rattle.market.specs.Refusals.{firstOf, AllClear}
 use Rattle.market.specs.Outcome.{sameCounts}
@@ -22,11 +22,11 @@ use Rattle.cases.specs.declared.Stage.the-variants.{Passed, Refused}
 use Rattle.entries.specs.CertificateBytes.{CertificateBytes}
 use Rattle.filings.specs.Form.{formGrounds, countsAre, sizeIs}
 
-pub length-from : (q : List ℕ) → lengthRight 44 q ≡ true → 44 ≤ length q
+pub length-from : (q : List ℕ) → lengthRight leastCertificateSize q ≡ true → leastCertificateSize ≤ length q
 unfolding lengthRight
 length-from q e =
-    let t : T (lengthRight 44 q) = rw e tt in
-    leb→le 44 (length q) (and-split (leb 44 (length q)) (eqb (u32At q 0 + 4) (length q)) t .0)
+    let t : T (lengthRight leastCertificateSize q) = rw e tt in
+    leb→le leastCertificateSize (length q) (and-split (leb leastCertificateSize (length q)) (eqb (u32At q 0 + 4) (length q)) t .0)
 
 -- ---- 8 to 11, each where the earlier ones have passed
 module _ (q : List ℕ) (n : Counts) (c : Case) (e : n ≡ countsIn c) where
@@ -38,23 +38,23 @@ module _ (q : List ℕ) (n : Counts) (c : Case) (e : n ≡ countsIn c) where
   unfolding sizeIs
   size-is = ap (λ (m : Counts). sizeIs q m) e
 
-  pub by-length : lengthRight 44 q ≡ false → Refused R.CertificateLength ≡ stageOf n (firstOf (formGrounds c q))
+  pub by-length : lengthRight leastCertificateSize q ≡ false → Refused R.CertificateLength ≡ stageOf n (firstOf (formGrounds c q))
   unfolding formGrounds firstOf
   by-length h = rw h
 
-  pub by-version : lengthRight 44 q ≡ true → versionRight q ≡ false → Refused R.CertificateVersion ≡ stageOf n (firstOf (formGrounds c q))
+  pub by-version : lengthRight leastCertificateSize q ≡ true → versionRight q ≡ false → Refused R.CertificateVersion ≡ stageOf n (firstOf (formGrounds c q))
   unfolding formGrounds firstOf
   by-version h k = rw (h, k)
 
-  pub by-counts : lengthRight 44 q ≡ true → versionRight q ≡ true → countsAre q n ≡ false → Refused R.CountsDiffer ≡ stageOf n (firstOf (formGrounds c q))
+  pub by-counts : lengthRight leastCertificateSize q ≡ true → versionRight q ≡ true → countsAre q n ≡ false → Refused R.CountsDiffer ≡ stageOf n (firstOf (formGrounds c q))
   unfolding formGrounds firstOf
   by-counts h k l = rw (h, k, sym counts-are ∙ l)
 
-  pub by-size : lengthRight 44 q ≡ true → versionRight q ≡ true → countsAre q n ≡ true → sizeIs q n ≡ false → Refused R.CertificateSize ≡ stageOf n (firstOf (formGrounds c q))
+  pub by-size : lengthRight leastCertificateSize q ≡ true → versionRight q ≡ true → countsAre q n ≡ true → sizeIs q n ≡ false → Refused R.CertificateSize ≡ stageOf n (firstOf (formGrounds c q))
   unfolding formGrounds firstOf
   by-size h k l m = rw (h, k, sym counts-are ∙ l, sym size-is ∙ m)
 
-  pub by-none : lengthRight 44 q ≡ true → versionRight q ≡ true → countsAre q n ≡ true → sizeIs q n ≡ true → Passed n ≡ stageOf n (firstOf (formGrounds c q))
+  pub by-none : lengthRight leastCertificateSize q ≡ true → versionRight q ≡ true → countsAre q n ≡ true → sizeIs q n ≡ true → Passed n ≡ stageOf n (firstOf (formGrounds c q))
   unfolding formGrounds firstOf
   by-none h k l m = rw (h, k, sym counts-are ∙ l, sym size-is ∙ m)
 
@@ -68,8 +68,6 @@ form-bytes q c h clear =
       resources-are = eqb→eq (u8At q 5) (c .resources) (counts .0);
       zones-are = eqb→eq (u8At q 6) (c .zones) (counts .1 .0);
       flowgates-are = eqb→eq (u8At q 7) (c .flowgates) (counts .1 .1 .0);
-      resources-most = h .most-resources;
-      zones-most = h .most-zones;
-      flowgates-most = h .most-flowgates;
+      counts = h;
       sized = eqb→eq (length q) (certificateSize (c .resources) (c .zones) (c .flowgates)) (passed .size-right);
     }

@@ -10,7 +10,7 @@ use Rattle.arith.proofs.AllTests.{all-append, all-map, all-across}
 use Rattle.market.specs.declared.Counts.{Counts}
 use Rattle.market.specs.Bytes.{u32At, i32At, within, withinℤ}
 use Rattle.market.specs.Case.{Case, curves}
-use Rattle.market.specs.Certificate.{certificateOf, priceAt, amountsPlace}
+use Rattle.market.specs.Certificate.{zonePricesPlace, amountsPlace, priceAt, certificateOf}
 use Rattle.market.specs.Records.{countsIn}
 use Rattle.market.specs.Rows.{Row, Balance, Zone, Flowgate, Limited, limits, marketRows, zoneRows, flowgateRows, limitRows, rows}
 use Rattle.market.specs.Outcome.{priceRight}
@@ -38,7 +38,7 @@ module _ (q : List ℕ) where
   zone-run z = refl
 
   module _ (r z f : ℕ) (h : CertificateBytes q r z f) where
-    flowgate-run : (g : ℕ) → right (Flowgate g) ≡ numberAtMost 400000 q (44 + z * 16) g
+    flowgate-run : (g : ℕ) → right (Flowgate g) ≡ numberAtMost 400000 q (zonePricesPlace z) g
     unfolding certificateOf priceAt
     flowgate-run g = rw (h .zones-are)
 
@@ -65,13 +65,13 @@ pricesAt q n =
     withinℤ (negℤ (pos 400000000)) (pos 400000000) (i32At q 24)
     && (all (numberAtMost 400000000 q 28) (upto 4)
     && (all (zonePriced q) (upto (n .zones))
-    && (all (numberAtMost 400000 q (44 + n .zones * 16)) (upto (n .flowgates)) && all (limitsPriced q (n .zones) (n .flowgates)) (upto (n .resources)))))
+    && (all (numberAtMost 400000 q (zonePricesPlace (n .zones))) (upto (n .flowgates)) && all (limitsPriced q (n .zones) (n .flowgates)) (upto (n .resources)))))
 
 module _ (q : List ℕ) (c : Case) (h : CertificateBytes q (c .resources) (c .zones) (c .flowgates)) where
   zone-family : all (right q) (zoneRows c) ≡ all (zonePriced q) (upto (c .zones))
   zone-family = all-across (right q) (λ z. map (Zone z) curves) (upto (c .zones)) ∙ (λ i. all (λ z. zone-run q z i) (upto (c .zones)))
 
-  flowgate-family : all (right q) (flowgateRows c) ≡ all (numberAtMost 400000 q (44 + c .zones * 16)) (upto (c .flowgates))
+  flowgate-family : all (right q) (flowgateRows c) ≡ all (numberAtMost 400000 q (zonePricesPlace (c .zones))) (upto (c .flowgates))
   flowgate-family = all-map (right q) Flowgate (upto (c .flowgates)) ∙ (λ i. all (λ g. flowgate-run q (c .resources) (c .zones) (c .flowgates) h g i) (upto (c .flowgates)))
 
   limit-family : all (right q) (limitRows c) ≡ all (limitsPriced q (c .zones) (c .flowgates)) (upto (c .resources))

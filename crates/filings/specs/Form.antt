@@ -9,13 +9,13 @@ use Rattle.market.specs.declared.Counts.{Counts}
 use Rattle.market.specs.Bytes.{u8At}
 use Rattle.market.specs.Case.{Case}
 use Rattle.market.specs.CaseCheck.{lengthRight, versionRight}
-use Rattle.market.specs.Certificate.{certificateOf, certificateSize}
+use Rattle.market.specs.Certificate.{leastCertificateSize, certificateOf, certificateSize}
 use Rattle.market.specs.Refusals.{Finding, unless}
 use Rattle.market.specs.Outcome.{sameCounts}
 
 unfoldable pub formGrounds : Case → List ℕ → List Finding
 formGrounds c q =
-    unless (lengthRight 44 q) CertificateLength
+    unless (lengthRight leastCertificateSize q) CertificateLength
     ∷ unless (versionRight q) CertificateVersion
     ∷ unless (sameCounts c (certificateOf q)) CountsDiffer
     ∷ unless (eqb (length q) (certificateSize (c .resources) (c .zones) (c .flowgates))) CertificateSize

@@ -1,14 +1,16 @@
 // A certificate's file for a case: its form, grounds 8 to 11, and the range of every price, ground 12
 // (01, 'How each operation refuses'). Both hold for every case with the counts that are passed.
 use cases::Stage;
+use market::CERTIFICATE_HEAD_SIZE;
 use market::Counts;
 use market::Refusal;
+use market::ZONE_PRICES_SIZE;
 ghost use mathlib.Core.Path.{_≡_};
 ghost use Prim.Native.Nat.{_+_, _*_, _<_, _≤_};
 ghost use Rattle.arith.specs.Sums.{upto, all};
 ghost use Rattle.market.specs.Case.{Case};
-ghost use Rattle.market.specs.CaseCheck.{lengthRight};
-ghost use Rattle.market.specs.Certificate.{certificateOf};
+ghost use Rattle.market.specs.CaseCheck.{CountsWithin, lengthRight};
+ghost use Rattle.market.specs.Certificate.{certificateHeadSize, zonePricesSize, leastCertificateSize, certificateOf};
 ghost use Rattle.market.specs.Records.{countsIn};
 ghost use Rattle.market.specs.Refusals.{firstOf};
 ghost use Rattle.market.specs.Rows.{rows};
@@ -21,16 +23,16 @@ ghost use Rattle.filings.specs.PricePlaces.{zonePriced, limitsPriced};
 
 // ---- 8 to 11: the file's form
 pub fn length_right(q: &[u8]) -> bool
-    ensures { λ t. ⌜ t ≡ lengthRight 44 (now (q .entry)) ⌝ }
+    ensures { λ t. ⌜ t ≡ lengthRight leastCertificateSize (now (q .entry)) ⌝ }
 {
-    if q.len() < 44 {
+    if q.len() < CERTIFICATE_HEAD_SIZE {
         return false;
     }
     cases::wide(wire::u32_at(q, 0)) + 4 == q.len() as u64
 }
 
 fn same_counts(q: &[u8], n: Counts) -> bool
-    requires { ⌜ Within (now q) 0 44 ⌝ }
+    requires { ⌜ Within (now q) 0 certificateHeadSize ⌝ }
     ensures { λ t. ⌜ t ≡ countsAre (now (q .entry)) n ⌝ }
 {
     if cases::count_at(q, 5) != n.resources {
@@ -43,17 +45,14 @@ fn same_counts(q: &[u8], n: Counts) -> bool
 }
 
 pub fn size_right(q: &[u8], n: Counts) -> bool
-    requires { ⌜ (n .resources ≤ 64) × (n .zones ≤ 8) × (n .flowgates ≤ 16) ⌝ }
+    requires { ⌜ CountsWithin (n .resources) (n .zones) (n .flowgates) ⌝ }
     ensures { λ t. ⌜ t ≡ sizeIs (now (q .entry)) n ⌝ }
 {
-    let resources = n.resources;
-    let zones = n.zones;
-    let flowgates = n.flowgates;
-    q.len() == 44 + zones * 16 + flowgates * 4 + resources * 40
+    q.len() == market::certificate_size(n.resources, n.zones, n.flowgates)
 }
 
 pub fn form(q: &[u8], n: Counts) -> Stage
-    requires { ⌜ (n .resources ≤ 64) × (n .zones ≤ 8) × (n .flowgates ≤ 16) ⌝ }
+    requires { ⌜ CountsWithin (n .resources) (n .zones) (n .flowgates) ⌝ }
     ensures { λ r. ⌜ ((c : Case) → n ≡ countsIn c → r ≡ stageOf n (firstOf (formGrounds c (now (q .entry))))) ⌝ }
 {
     if !length_right(q) {
@@ -73,12 +72,17 @@ pub fn form(q: &[u8], n: Counts) -> Stage
 
 // ---- 12: every price within its range
 fn zones_priced(q: &[u8], zones: usize) -> bool
-    requires { ⌜ Within (now q) 44 (zones * 16) ⌝ }
+    requires { ⌜ Within (now q) certificateHeadSize (zones * zonePricesSize) ⌝ }
     ensures { λ t. ⌜ t ≡ all (zonePriced (now (q .entry))) (upto zones) ⌝ }
 {
     let mut zone: usize = 0;
     while zone < zones {
-        if !ranges::all_at_most(q, 44 + zone * 16, 4, 400000000) {
+        if !ranges::all_at_most(
+            q,
+            CERTIFICATE_HEAD_SIZE + zone * ZONE_PRICES_SIZE,
+            4,
+            400000000,
+        ) {
             return false;
         }
         zone += 1;
@@ -92,7 +96,7 @@ fn limits_priced(q: &[u8], resources: usize, zones: usize, flowgates: usize) -> 
 {
     let mut i: usize = 0;
     while i < resources {
-        let at = 44 + zones * 16 + flowgates * 4 + i * 40;
+        let at = market::amounts_place(zones, flowgates, i);
         if !ranges::all_at_most(q, at + 20, 5, 400000000) {
             return false;
         }
@@ -118,7 +122,12 @@ pub fn prices_right(q: &[u8], n: Counts) -> bool
     if !zones_priced(q, zones) {
         return false;
     }
-    if !ranges::all_at_most(q, 44 + zones * 16, flowgates, 400000) {
+    if !ranges::all_at_most(
+        q,
+        CERTIFICATE_HEAD_SIZE + zones * ZONE_PRICES_SIZE,
+        flowgates,
+        400000,
+    ) {
         return false;
     }
     limits_priced(q, resources, zones, flowgates)

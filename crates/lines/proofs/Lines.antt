@@ -16,6 +16,7 @@ use Rattle.market.specs.declared.Valuation.{Valuation}
 use Rattle.market.specs.declared.Outcome.the-variants.{Accepted}
 use Rattle.market.specs.Case.{Case}
 use Rattle.market.specs.CaseFile.{caseOf}
+use Rattle.market.specs.CaseCheck.{mostResources, mostZones}
 use Rattle.records.specs.Places.{CaseBytes}
 use Rattle.records.proofs.Places.{resources-is, zones-is}
 use Rattle.market.specs.Availability.{onLine}
@@ -109,7 +110,7 @@ module _ (c : Case) (k : Certificate) where
   zones-most n = omega (arith, across-most (zoneLine k) mostZoneLine zone-most (upto n), length-upto n)
 
   -- ---- all lines
-  pub schedule-most : c .resources ≤ 64 → c .zones ≤ 8 → length (scheduleLines c k) ≤ mostSchedule
+  pub schedule-most : c .resources ≤ mostResources → c .zones ≤ mostZones → length (scheduleLines c k) ≤ mostSchedule
   unfolding scheduleLines
   schedule-most hr hz =
       let xs = across (resourceLine c k) (upto (c .resources)) in
@@ -128,4 +129,4 @@ module _ (c : Case) (k : Certificate) where
       ∙ ap (λ (t : List ℕ). valueLine costWord (v .cost) ++ t) (append-assoc (valueLine boundWord (v .bound)) (valueLine gapWord (v .gap)) rest)
 
 pub schedule-fits : (b : List ℕ) (k : Certificate) {r z f : ℕ} → CaseBytes b r z f → length (scheduleLines (caseOf b) k) ≤ mostSchedule
-schedule-fits b k h = schedule-most (caseOf b) k (omega (arith, resources-is h, h .most-resources)) (omega (arith, zones-is h, h .most-zones))
+schedule-fits b k h = schedule-most (caseOf b) k (omega (arith, resources-is h, h .counts .most-resources)) (omega (arith, zones-is h, h .counts .most-zones))

@@ -1,5 +1,6 @@
 -- How long the program's lines may get, by counting each number at its longest.
 use Prim.Native.Nat.{ℕ, _+_, _*_}
+use Rattle.market.specs.CaseCheck.{mostResources, mostZones}
 use Rattle.text.specs.Written.{mostDecimal, mostFigures}
 
 -- a word and a number; 'cost', 'bound', 'gap'
@@ -24,9 +25,8 @@ mostZoneLine = 4 + mostFigures 5
 abbrev pub mostRefusal : ℕ
 mostRefusal = 7 + mostFigures 2
 
--- of 64 resources and 8 zones
 abbrev pub mostSchedule : ℕ
-mostSchedule = mostResourceLine * 64 + mostZoneLine * 8
+mostSchedule = mostResourceLine * mostResources + mostZoneLine * mostZones
 
 -- of any input: MOST_TEXT in the crate `report`
 abbrev pub mostText : ℕ

@@ -6,6 +6,7 @@ ghost use lib.ListN.{length};
 ghost use Rattle.arith.specs.Sums.{upto, across};
 ghost use Rattle.market.specs.declared.Outcome.the-variants.{Accepted};
 ghost use Rattle.market.specs.CaseFile.{caseOf};
+ghost use Rattle.market.specs.CaseCheck.{mostResources, mostZones};
 ghost use Rattle.market.specs.Certificate.{certificateOf};
 ghost use Rattle.market.specs.Program.{refusalLine, resourceLine, zoneLine, report as reportOf};
 ghost use Rattle.prices.specs.Standing.{PricesStand};
@@ -75,7 +76,7 @@ fn truth_figure(t: bool) -> i64
 }
 
 fn resource_text(i: usize, on: bool, a: Amounts, price: Millicents, out: &mut [u8]) -> usize
-    requires { ⌜ (i < 64) × (mostResourceLine ≤ length (now out)) ⌝ }
+    requires { ⌜ (i < mostResources) × (mostResourceLine ≤ length (now out)) ⌝ }
     ensures { λ r. ⌜ Wrote (resourceText i on a price) (now (out .entry)) (now (out .exit)) r ⌝ }
 {
     let flag = truth_figure(on);
@@ -128,7 +129,7 @@ fn resource_lines(b: &[u8], q: &[u8], r: usize, z: usize, f: usize, out: &mut [u
 // ---- zones
 
 fn zone_text(zone: usize, p: ZonePrices, out: &mut [u8]) -> usize
-    requires { ⌜ (zone < 8) × (mostZoneLine ≤ length (now out)) ⌝ }
+    requires { ⌜ (zone < mostZones) × (mostZoneLine ≤ length (now out)) ⌝ }
     ensures { λ r. ⌜ Wrote (zoneText zone p) (now (out .entry)) (now (out .exit)) r ⌝ }
 {
     let number = zone as i64 + 1;

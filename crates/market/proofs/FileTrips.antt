@@ -106,7 +106,7 @@ module _ (K : FileKind) where
       let counts : T (byCounts countsRight b) = subst T (ap countsInRange (sym read) ∙ range-of-counts fs first b) (listed .counts-in-range) in
       let filled : length b ≡ 5 + totalOf fieldWidth (byCounts (K .fields) b) = file-length fs vs fits ∙ ap (λ (gs : List Field). 5 + totalOf fieldWidth gs) same in
       let small = counts-most (u8At b 5) (u8At b 6) (u8At b 7) counts in
-      let most = K .at-most (u8At b 5) (u8At b 6) (u8At b 7) (small .0) (small .1) (small .2) in
+      let most = K .at-most (u8At b 5) (u8At b 6) (u8At b 7) (small .most-resources) (small .most-zones) (small .most-flowgates) in
       let total : 1 + totalOf fieldWidth fs < 4294967296 = omega (arith, file-length fs vs fits, K .fills (u8At b 5) (u8At b 6) (u8At b 7)) in
       let says : u32At b 0 + 4 ≡ length b = omega (arith, length-field fs vs total, file-length fs vs fits) in
       let right : Right b = record { says = says; version = refl; counts = counts; filled = filled } in

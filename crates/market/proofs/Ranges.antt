@@ -16,7 +16,7 @@ use Rattle.market.specs.declared.Refusal.the-variants.{AboveBound}
 use Rattle.market.specs.Bytes.{withinℤ}
 use Rattle.market.specs.Case.{Case, Resource, Reserve, widthOf, energySteps}
 use Rattle.market.specs.CaseFile.{caseOf}
-use Rattle.market.specs.CaseCheck.{mostResources, mostZones, mostFlowgates, countsRight, fieldsInRange, stepsRule, limitsOrdered}
+use Rattle.market.specs.CaseCheck.{CountsWithin, countsRight, fieldsInRange, stepsRule, limitsOrdered}
 use Rattle.market.specs.UpperBounds.{quantities, upperBound}
 use Rattle.market.specs.Rows.{rows, Sense, equal, atLeast, sense, Bounded}
 use Rattle.market.specs.Certificate.{Certificate, highestPrice, lowestPrice}
@@ -36,11 +36,11 @@ use Rattle.market.proofs.CheckInWords.{check-in-words}
 size-of : (n : ℕ) (v : ℤ) → EitherWay n v → Size v n
 size-of n v h = size-between n v (h .0) (h .1)
 
-pub counts-most : (r z f : ℕ) → T (countsRight r z f) → (r ≤ mostResources) × (z ≤ mostZones) × (f ≤ mostFlowgates)
-counts-most r z f h = let n = check-in-words .counts r z f .0 h in (n .0 .1, n .1 .1, n .2)
+pub counts-most : (r z f : ℕ) → T (countsRight r z f) → CountsWithin r z f
+counts-most r z f h = let n = check-in-words .counts r z f .0 h in record { most-resources = n .0 .1; most-zones = n .1 .1; most-flowgates = n .2 }
 
 pub count-ranges : (c : Case) → T (countsRight (c .resources) (c .zones) (c .flowgates)) → CountRanges c
-count-ranges c h = let n = counts-most (c .resources) (c .zones) (c .flowgates) h in record { most-resources = n .0; most-zones = n .1; most-flowgates = n .2 }
+count-ranges c = counts-most (c .resources) (c .zones) (c .flowgates)
 
 reserve-ranges : (c : Case) (p : Reserve) → ReserveWithin c p → ReserveRanges c p
 reserve-ranges c p h =

@@ -2,8 +2,84 @@
 // The definitions of document 01 stand in specs/, what is proved of them in proofs/.
 ghost use mathlib.Core.Path.{_≡_};
 ghost use Rattle.market.specs.Bits.{committed, available, activeSchedule, onLineSupplemental, regulatingFlag, spinningFlag, offLineSupplementalFlag, offLineShortTermFlag, emergencyMaximumFlag, selfScheduledFlag, emergencyMinimumFlag, onLineShortTermFlag, statusOf, statusBits};
+ghost use Rattle.market.specs.CaseFile.{flowgatePlace, caseSize};
+ghost use Rattle.market.specs.CaseCheck.{CountsWithin};
+ghost use Rattle.market.specs.Certificate.{amountsPlace, certificateSize};
 ghost use Rattle.market.specs.Refusals.{numberOf, placeOf};
 
+// ---- limits, and the sizes of the two files' parts in bytes
+pub const MOST_RESOURCES: usize = 64;
+
+pub const MOST_ZONES: usize = 8;
+
+pub const MOST_FLOWGATES: usize = 16;
+
+// Of a case.
+pub const HEAD_SIZE: usize = 170;
+
+pub const ZONE_SIZE: usize = 16;
+
+pub const RESOURCE_SIZE: usize = 154;
+
+pub const FLOWGATE_HEAD_SIZE: usize = 4;
+
+pub const FACTOR_SIZE: usize = 2;
+
+pub const LARGEST_CASE_SIZE: usize = HEAD_SIZE
+    + MOST_ZONES * ZONE_SIZE
+    + MOST_RESOURCES * RESOURCE_SIZE
+    + MOST_FLOWGATES * (FLOWGATE_HEAD_SIZE + MOST_RESOURCES * FACTOR_SIZE);
+
+// Of a certificate.
+pub const CERTIFICATE_HEAD_SIZE: usize = 44;
+
+pub const ZONE_PRICES_SIZE: usize = 16;
+
+pub const FLOWGATE_PRICE_SIZE: usize = 4;
+
+pub const ENTRY_SIZE: usize = 40;
+
+// ---- where a part stands, after the others
+
+// Flowgate f of a case, after its zones and resources.
+pub fn flowgate_place(resources: usize, zones: usize, f: usize) -> usize
+    requires { ⌜ CountsWithin resources zones f ⌝ }
+    ensures { λ r. ⌜ r ≡ flowgatePlace resources zones f ⌝ }
+{
+    HEAD_SIZE
+        + zones * ZONE_SIZE
+        + resources * RESOURCE_SIZE
+        + f * (FLOWGATE_HEAD_SIZE + resources * FACTOR_SIZE)
+}
+
+// What a certificate says of resource i, after its zones and flowgates.
+pub fn amounts_place(zones: usize, flowgates: usize, i: usize) -> usize
+    requires { ⌜ CountsWithin i zones flowgates ⌝ }
+    ensures { λ r. ⌜ r ≡ amountsPlace zones flowgates i ⌝ }
+{
+    CERTIFICATE_HEAD_SIZE
+        + zones * ZONE_PRICES_SIZE
+        + flowgates * FLOWGATE_PRICE_SIZE
+        + i * ENTRY_SIZE
+}
+
+// ---- how many bytes a file of these counts has
+
+pub fn case_size(resources: usize, zones: usize, flowgates: usize) -> usize
+    requires { ⌜ CountsWithin resources zones flowgates ⌝ }
+    ensures { λ r. ⌜ r ≡ caseSize resources zones flowgates ⌝ }
+{
+    flowgate_place(resources, zones, flowgates)
+}
+
+pub fn certificate_size(resources: usize, zones: usize, flowgates: usize) -> usize
+    requires { ⌜ CountsWithin resources zones flowgates ⌝ }
+    ensures { λ r. ⌜ r ≡ certificateSize resources zones flowgates ⌝ }
+{
+    amounts_place(zones, flowgates, resources)
+}
+
+// ---- units
 // Power, in kW.
 pub struct Kw(pub i64);
 

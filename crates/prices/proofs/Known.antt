@@ -74,7 +74,7 @@ module _ {b q : List ℕ} {r z f : ℕ} (s : PricesStand b q r z f) where
   lmp-is i = rw (← (flowgates-is (s .case-bytes)))
 
   pub lmp-room : (i : ℕ) → i < r → SumRoom (certificateOf q .price Balance) (sumOf (λ g. certificateOf q .price (Flowgate g) *ℤ caseOf b .shiftFactor g i) (upto f))
-  lmp-room i k = omega (arith, balance-size, congestion-so-far f i (omega arith) k, s .case-bytes .most-flowgates)
+  lmp-room i k = omega (arith, balance-size, congestion-so-far f i (omega arith) k, s .case-bytes .counts .most-flowgates)
 
   -- the market rows' prices, and a zone's
   pub market-small : SmallPrices (reservePricesOf (certificateOf q .price) Market)

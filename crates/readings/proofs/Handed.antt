@@ -3,7 +3,6 @@
 use mathlib.Core.Path.{_≡_, refl, sym, _∙_, ap}
 use mathlib.Core.List.{List, [], _∷_, _++_}
 use Prim.Native.Nat.{ℕ, suc, _+_, _<_, _≤_}
-use native.Mathlib.Nat.{mul-le-mul}
 use native.Mathlib.Omega.{arith}
 use lib.IntN.{ℤ}
 use lib.ListN.{length, drop, getD}
@@ -12,11 +11,12 @@ use Rattle.market.specs.declared.Refusal.the-variants.{BufferShort}
 use Rattle.market.specs.declared.Counts.{Counts}
 use Rattle.market.specs.declared.Transfer.{Transfer}
 use Rattle.market.specs.declared.Transfer.the-variants as W
+use Rattle.market.specs.CaseCheck.{CountsWithin}
 use Rattle.market.specs.Refusals.{Finding, clear, holds, firstOf, transferOf, bufferAfter, AllClear}
 use Rattle.market.specs.Numbers.{Field, numbersAt, numbersOf, readCase, readCaseGrounds, readCaseBuffer, readCertificate, readCertificateGrounds, readCertificateBuffer, writeCase, writeCaseBuffer, writeCertificate, writeCertificateBuffer}
 use Rattle.market.specs.RoundTrips.{AreBytes}
 use Rattle.market.proofs.FieldLists.{numbers-length}
-use Rattle.market.proofs.FileSizes.{case-count, certificate-count}
+use Rattle.market.proofs.FileSizes.{case-count, certificate-count, flowgate-numbers-within}
 use Rattle.market.proofs.LentBuffer.{refused-before, too-short, long-enough}
 use Rattle.market.proofs.RoundTrips.{received, round-trips}
 use Rattle.fields.specs.declared.File.{File}
@@ -29,9 +29,9 @@ use Rattle.readings.specs.Reading.{countsOf, groundsOf, groundsWith15, r
 abbrev pub fieldsBy : File → Counts → List Field
 fieldsBy file n = fieldsOf file (n .resources) (n .zones) (n .flowgates)
 
-pub count-small : (file : File) (r z f : ℕ) → r ≤ 64 → z ≤ 8 → f ≤ 16 → length (fieldsOf file r z f) < 4294967296
-count-small Case r z f a b c = omega (arith, case-count r z f, mul-le-mul {n₁ = f} {m₁ = r + 1} {n₂ = 16} {m₂ = 65} (omega arith) (omega arith))
-count-small Certificate r z f a b c = omega (arith, certificate-count r z f)
+pub count-small : (file : File) (r z f : ℕ) → CountsWithin r z f → length (fieldsOf file r z f) < 4294967296
+count-small Case r z f n = omega (arith, case-count r z f, flowgate-numbers-within n, n .most-resources, n .most-zones)
+count-small Certificate r z f n = omega (arith, certificate-count r z f, n .most-resources, n .most-zones, n .most-flowgates)
 
 module _ (file : File) (b : List ℕ) (old : List ℤ) where
   -- the answer and the buffer afterwards

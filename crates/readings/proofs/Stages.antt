@@ -11,7 +11,7 @@ use Rattle.market.specs.declared.Counts.{Counts}
 use Rattle.market.specs.Bytes.{u8At}
 use Rattle.market.specs.CaseFile.{caseOf}
 use Rattle.market.specs.CaseCheck.{lengthRight, versionRight, countsRight}
-use Rattle.market.specs.Certificate.{certificateSize}
+use Rattle.market.specs.Certificate.{leastCertificateSize, certificateSize}
 use Rattle.market.specs.Records.{countsIn}
 use Rattle.market.specs.Refusals.{clear, firstOf}
 use Rattle.market.specs.Numbers.{certificateFileGrounds}
@@ -33,11 +33,11 @@ counts-same b = refl
 
 -- ---- 8, 9, 3, 11, each where the earlier ones have passed
 module _ (q : List ℕ) where
-  pub by-length : lengthRight 44 q ≡ false → Refused R.CertificateLength ≡ stageOf (countsOf q) (firstOf (certificateFileGrounds q))
+  pub by-length : lengthRight leastCertificateSize q ≡ false → Refused R.CertificateLength ≡ stageOf (countsOf q) (firstOf (certificateFileGrounds q))
   unfolding certificateFileGrounds firstOf
   by-length h = rw h
 
-  pub by-version : lengthRight 44 q ≡ true → versionRight q ≡ false → Refused R.CertificateVersion ≡ stageOf (countsOf q) (firstOf (certificateFileGrounds q))
+  pub by-version : lengthRight leastCertificateSize q ≡ true → versionRight q ≡ false → Refused R.CertificateVersion ≡ stageOf (countsOf q) (firstOf (certificateFileGrounds q))
   unfolding certificateFileGrounds firstOf
   by-version h k = rw (h, k)
 
@@ -49,15 +49,15 @@ module _ (q : List ℕ) where
     unfolding sizeIs
     size-is = ap (sizeIs q) (e ∙ counts-same q)
 
-    pub by-counts : lengthRight 44 q ≡ true → versionRight q ≡ true → countsRight (n .resources) (n .zones) (n .flowgates) ≡ false → Refused R.Counts ≡ stageOf (countsOf q) (firstOf (certificateFileGrounds q))
+    pub by-counts : lengthRight leastCertificateSize q ≡ true → versionRight q ≡ true → countsRight (n .resources) (n .zones) (n .flowgates) ≡ false → Refused R.Counts ≡ stageOf (countsOf q) (firstOf (certificateFileGrounds q))
     unfolding certificateFileGrounds firstOf
     by-counts h k l = rw (h, k, sym counts-are ∙ l)
 
-    pub by-size : lengthRight 44 q ≡ true → versionRight q ≡ true → countsRight (n .resources) (n .zones) (n .flowgates) ≡ true → sizeIs q n ≡ false → Refused R.CertificateSize ≡ stageOf (countsOf q) (firstOf (certificateFileGrounds q))
+    pub by-size : lengthRight leastCertificateSize q ≡ true → versionRight q ≡ true → countsRight (n .resources) (n .zones) (n .flowgates) ≡ true → sizeIs q n ≡ false → Refused R.CertificateSize ≡ stageOf (countsOf q) (firstOf (certificateFileGrounds q))
     unfolding certificateFileGrounds firstOf
     by-size h k l m = rw (h, k, sym counts-are ∙ l, sym size-is ∙ m)
 
-    pub by-none : lengthRight 44 q ≡ true → versionRight q ≡ true → countsRight (n .resources) (n .zones) (n .flowgates) ≡ true → sizeIs q n ≡ true → Passed n ≡ stageOf (countsOf q) (firstOf (certificateFileGrounds q))
+    pub by-none : lengthRight leastCertificateSize q ≡ true → versionRight q ≡ true → countsRight (n .resources) (n .zones) (n .flowgates) ≡ true → sizeIs q n ≡ true → Passed n ≡ stageOf (countsOf q) (firstOf (certificateFileGrounds q))
     unfolding certificateFileGrounds firstOf
     by-none h k l m = rw (h, k, sym counts-are ∙ l, sym size-is ∙ m, e ∙ counts-same q)
 
@@ -74,9 +74,7 @@ past Case b h =
       resources = refl;
       zones = refl;
       flowgates = refl;
-      most-resources = c .most-resources;
-      most-zones = c .most-zones;
-      most-flowgates = c .most-flowgates;
+      counts = c .counts;
       filled = c .size ∙ sym (case-fills (u8At b 5) (u8At b 6) (u8At b 7));
     }
 past Certificate b h =
@@ -88,9 +86,7 @@ past Certificate b h =
       resources = refl;
       zones = refl;
       flowgates = refl;
-      most-resources = most .0;
-      most-zones = most .1;
-      most-flowgates = most .2;
+      counts = most;
       filled = eqb→eq (length b) (certificateSize (u8At b 5) (u8At b 6) (u8At b 7)) size ∙ sym (certificate-fills (u8At b 5) (u8At b 6) (u8At b 7));
     }
 

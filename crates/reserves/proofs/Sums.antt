@@ -7,6 +7,7 @@ use Rattle.arith.specs.Sums.{sumOf, upto}
 use Rattle.arith.proofs.Sums.{sum-upto}
 use Rattle.arith.proofs.NaturalSums.{upto-size}
 use Rattle.market.specs.Case.{Curve, operating, regulatingPlusSpinning, regulating, shortTerm}
+use Rattle.market.specs.CaseCheck.{mostResources}
 use Rattle.market.specs.Records.{kw, curveAmountsOf}
 use Rattle.units.specs.Room.{SumRoom}
 use Rattle.reserves.specs.Given.{SumsRoom, addedAmounts}
@@ -36,7 +37,7 @@ module _ (f : Curve → ℕ → ℤ) where
         «short_term» = kw (sum-same shortTerm i (e shortTerm) j);
       }
 
-  module _ (r : ℕ) (few : r ≤ 64) (small : (k : Curve) (i : ℕ) → i < r → natAbs (f k i) ≤ 4000000) where
+  module _ (r : ℕ) (few : r ≤ mostResources) (small : (k : Curve) (i : ℕ) → i < r → natAbs (f k i) ≤ 4000000) where
     sum-room : (k : Curve) (i : ℕ) → i < r → SumRoom (sumOf (f k) (upto i)) (f k i)
     sum-room k i h = omega (arith, small k i h, upto-size (f k) 4000000 i (λ j l. small k j (omega arith)))
 

@@ -8,6 +8,7 @@ use lib.ListN.{getD, set}
 use Rattle.market.specs.declared.CurveAmounts.{CurveAmounts}
 use Rattle.market.specs.Case.{Curve}
 use Rattle.market.specs.CaseFile.{caseOf}
+use Rattle.market.specs.CaseCheck.{mostZones}
 use Rattle.market.specs.Certificate.{certificateOf}
 use Rattle.market.specs.InWords.{reserveOf, reserveInZone}
 use Rattle.market.specs.Records.{curveAmountsOf}
@@ -31,8 +32,8 @@ module _ {b q : List ℕ} {r z f : ℕ} (s : Standing b q r z f) (i n : ℕ) (h 
   pub zone-from-one : 1 ≤ n
   zone-from-one = omega (arith, case-ranges (s .prices) .resource i (resource-below (s .prices) h) .zone-from)
 
-  pub zone-of-eight : n - 1 < 8
-  zone-of-eight = omega (arith, zone-from-one, case-ranges (s .prices) .resource i (resource-below (s .prices) h) .zone-to, zones-is (s .prices .case-bytes), s .prices .case-bytes .most-zones)
+  pub zone-below : n - 1 < mostZones
+  zone-below = omega (arith, zone-from-one, case-ranges (s .prices) .resource i (resource-below (s .prices) h) .zone-to, zones-is (s .prices .case-bytes), s .prices .case-bytes .counts .most-zones)
 
   own-in-zone : own ≡ curveAmountsOf (λ k. inZone (n - 1) k i)
   own-in-zone = at-home (caseOf b) (certificateOf q .amount) i (n - 1) (omega (arith, zone-from-one))
@@ -44,11 +45,11 @@ module _ {b q : List ℕ} {r z f : ℕ} (s : Standing b q r z f) (i n : ℕ) (h 
   module _ (d : CurveAmounts) where
     pub zone-room : SumsRoom (getD (zoneTotals b q i) (n - 1) d) own
     zone-room =
-        rw (table-entry d (zoneTotal b q i) 8 (n - 1) zone-of-eight, own-in-zone)
-        (sums-room (inZone (n - 1)) r (s .prices .case-bytes .most-resources) (given-in-zone-small s (n - 1)) i h)
+        rw (table-entry d (zoneTotal b q i) mostZones (n - 1) zone-below, own-in-zone)
+        (sums-room (inZone (n - 1)) r (s .prices .case-bytes .counts .most-resources) (given-in-zone-small s (n - 1)) i h)
 
     zone-more : addedAmounts (getD (zoneTotals b q i) (n - 1) d) own ≡ zoneTotal b q (i + 1) (n - 1)
-    zone-more = rw (table-entry d (zoneTotal b q i) 8 (n - 1) zone-of-eight, own-in-zone) (sums-more (inZone (n - 1)) i)
+    zone-more = rw (table-entry d (zoneTotal b q i) mostZones (n - 1) zone-below, own-in-zone) (sums-more (inZone (n - 1)) i)
 
     pub zones-more : set (zoneTotals b q i) (n - 1) (addedAmounts (getD (zoneTotals b q i) (n - 1) d) own) ≡ zoneTotals b q (i + 1)
-    zones-more = table-store d (zoneTotal b q i) (zoneTotal b q (i + 1)) 8 (n - 1) (addedAmounts (getD (zoneTotals b q i) (n - 1) d) own) zone-more zone-same
+    zones-more = table-store d (zoneTotal b q i) (zoneTotal b q (i + 1)) mostZones (n - 1) (addedAmounts (getD (zoneTotals b q i) (n - 1) d) own) zone-more zone-same

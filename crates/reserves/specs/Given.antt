@@ -8,6 +8,7 @@ use Rattle.market.specs.declared.CurveAmounts.{CurveAmounts}
 use Rattle.market.specs.declared.Kw.{Kw}
 use Rattle.market.specs.Case.{Case}
 use Rattle.market.specs.CaseFile.{caseOf}
+use Rattle.market.specs.CaseCheck.{mostZones}
 use Rattle.market.specs.UpperBounds.{Schedule}
 use Rattle.market.specs.Certificate.{certificateOf}
 use Rattle.market.specs.InWords.{reserveOf, reserveInZone}
@@ -64,7 +65,7 @@ zoneTotal b q n zone = curveAmountsOf (λ k. sumOf (reserveInZone (caseOf b) (ce
 
 -- to each of eight zones, which is as many as a case may have
 abbrev pub zoneTotals : List ℕ → List ℕ → ℕ → List CurveAmounts
-zoneTotals b q n = map (zoneTotal b q n) (upto 8)
+zoneTotals b q n = map (zoneTotal b q n) (upto mostZones)
 
 abbrev pub totalsOf : List ℕ → List ℕ → ℕ → ReserveTotals
 totalsOf b q n = record { market = marketTotal b q n; zones = zoneTotals b q n }

@@ -14,6 +14,7 @@ ghost use Rattle.reserves.specs.Given.{SmallAmounts, SumsRoom, givenBy, 
 use market::Amounts;
 use market::CurveAmounts;
 use market::Kw;
+use market::MOST_ZONES;
 use market::State;
 
 // ---- of one resource
@@ -95,11 +96,11 @@ fn amounts_sum(a: CurveAmounts, b: CurveAmounts) -> CurveAmounts
     }
 }
 
-// What all resources give to the market's rows, and those of each zone to its rows. A case has at most eight zones; they
-// count from 0 here, from 1 in the file.
+// What all resources give to the market's rows, and those of each zone to its rows. Zones count from 0 here,
+// from 1 in the file.
 pub struct ReserveTotals {
     pub market: CurveAmounts,
-    pub zones: [CurveAmounts; 8],
+    pub zones: [CurveAmounts; MOST_ZONES],
 }
 
 pub fn totals(b: &[u8], q: &[u8], r: usize, z: usize, f: usize) -> ReserveTotals
@@ -107,7 +108,7 @@ pub fn totals(b: &[u8], q: &[u8], r: usize, z: usize, f: usize) -> ReserveTotals
     ensures { λ v. ⌜ v ≡ totalsOf (now (b .entry)) (now (q .entry)) r ⌝ }
 {
     let mut market = nothing();
-    let mut zones = [market; 8];
+    let mut zones = [market; MOST_ZONES];
     let mut i: usize = 0;
     while i < r {
         let one = reserve_given(b, q, r, z, f, i);

@@ -21,6 +21,7 @@ use market::CurveAmounts;
 use market::Grains;
 use market::Kw;
 use market::LimitPrices;
+use market::MOST_ZONES;
 use market::Millicents;
 use market::ReservePrices;
 
@@ -137,7 +138,7 @@ fn write_zones(
     r: usize,
     z: usize,
     f: usize,
-    have: [CurveAmounts; 8],
+    have: [CurveAmounts; MOST_ZONES],
     out: &mut [i64],
 )
     requires { ⌜ Standing (now b) (now q) r z f × (z * 4 ≤ length (now out)) ⌝ }

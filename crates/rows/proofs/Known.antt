@@ -16,6 +16,7 @@ use Rattle.market.specs.declared.First.the-variants.{None, At}
 use Rattle.market.specs.declared.Refusal.{Refusal}
 use Rattle.market.specs.Case.{Case, curves}
 use Rattle.market.specs.CaseFile.{caseOf}
+use Rattle.market.specs.CaseCheck.{mostResources}
 use Rattle.market.specs.UpperBounds.{energy}
 use Rattle.market.specs.Rows.{Row, Balance, Zone, Flowgate, marketRows, zoneRows, flowgateRows, limitRows, rows}
 use Rattle.market.specs.Certificate.{certificateOf}
@@ -33,7 +34,7 @@ use Rattle.rows.specs.Tests.{EnergyBounded}
 use Rattle.rows.proofs.Search.{found-here, found-next}
 
 -- ---- energy
-pub energy-room : (q : List ℕ) (r : ℕ) → EnergyBounded q r → r ≤ 64 → (i : ℕ) → i < r → SumRoom (sumOf (λ j. kwOf (certificateOf q .amount) j energy) (upto i)) (kwOf (certificateOf q .amount) i energy)
+pub energy-room : (q : List ℕ) (r : ℕ) → EnergyBounded q r → r ≤ mostResources → (i : ℕ) → i < r → SumRoom (sumOf (λ j. kwOf (certificateOf q .amount) j energy) (upto i)) (kwOf (certificateOf q .amount) i energy)
 energy-room q r e few i h = omega (arith, e .most i h, upto-size (λ j. kwOf (certificateOf q .amount) j energy) 2000000 i (λ j l. e .most j (omega arith)))
 
 module _ {b q : List ℕ} {r z f : ℕ} (s : Standing b q r z f) where
@@ -60,7 +61,7 @@ module _ {b q : List ℕ} {r z f : ℕ} (s : Standing b q r z f) where
         arith,
         part-small g i h k,
         upto-size (λ j. caseOf b .shiftFactor g j *ℤ kwOf (certificateOf q .amount) j energy) 2000000000 i (λ j l. part-small g j h (omega arith)),
-        s .prices .case-bytes .most-resources,
+        s .prices .case-bytes .counts .most-resources,
       )
 
   -- ---- a resource's record

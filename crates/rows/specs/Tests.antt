@@ -1,7 +1,8 @@
 -- The tests of a family's rows on figures by value, in the words of 01, and the first that fails.
 use mathlib.Core.Bool.{Bool, true, false}
 use mathlib.Core.List.{List, [], _∷_}
-use Prim.Native.Nat.{ℕ, suc, _<_, _≤_}
+use Prim.Native.Nat.{ℕ, suc, _+_, _*_, _<_, _≤_}
+use lib.ListN.{length}
 use lib.IntN.{_+ℤ_, _-ℤ_}
 use lib.Signed.{leZ}
 use Rattle.market.specs.declared.Amounts.{Amounts}
@@ -9,9 +10,11 @@ use Rattle.market.specs.declared.CurveAmounts.{CurveAmounts}
 use Rattle.market.specs.declared.First.{First}
 use Rattle.market.specs.declared.First.the-variants.{None, At}
 use Rattle.market.specs.declared.Refusal.the-variants.{RowBroken}
+use Rattle.market.specs.Case.{curves}
 use Rattle.market.specs.CaseFile.{caseOf}
+use Rattle.market.specs.CaseCheck.{mostResources, mostZones, mostFlowgates}
 use Rattle.market.specs.UpperBounds.{energy, Provided}
-use Rattle.market.specs.Rows.{Row}
+use Rattle.market.specs.Rows.{Row, limits}
 use Rattle.market.specs.Certificate.{certificateOf}
 use Rattle.market.specs.Refusals.{Finding, firstFailing}
 use Rattle.market.specs.Outcome.{rowMet}
@@ -27,7 +30,14 @@ firstFalse n (false ∷ ts) = At n
 abbrev pub brokenFrom : List ℕ → List ℕ → ℕ → List Row → Finding
 brokenFrom b q n rs = firstFailing (rowMet (caseOf b) (certificateOf q)) RowBroken n rs
 
--- a row's number, up to so many: no case has more than 1 + 4 + 4 × 8 + 16 + 5 × 64 rows
+-- the largest number that the first row of a resource may have, and the one after the last row
+abbrev pub mostFirstLimit : ℕ
+mostFirstLimit = 2 + length curves + mostZones * length curves + mostFlowgates
+
+abbrev pub mostRow : ℕ
+mostRow = mostFirstLimit + mostResources * length limits
+
+-- a row's number, up to so many
 pub record Numbered (most n : ℕ) : Type 0 where
   pub to : n ≤ most
 

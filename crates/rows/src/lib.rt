@@ -19,12 +19,13 @@ ghost use Rattle.records.specs.Places.{ZoneIn};
 ghost use Rattle.entries.specs.CertificateBytes.{CertificateBytes};
 ghost use Rattle.prices.specs.Standing.{Standing};
 ghost use Rattle.reserves.specs.Given.{SmallAmounts, marketTotal, zoneTotal, zoneTotals};
-ghost use Rattle.rows.specs.Tests.{firstFalse, shortTests, limitTests, EnergyBounded, brokenFrom, Numbered};
+ghost use Rattle.rows.specs.Tests.{firstFalse, shortTests, limitTests, EnergyBounded, brokenFrom, mostRow, mostFirstLimit, Numbered};
 use limits::ResourceLimits;
 use market::Amounts;
 use market::CurveAmounts;
 use market::First;
 use market::Kw;
+use market::MOST_ZONES;
 use market::Watts;
 
 // ---- row 1
@@ -61,7 +62,7 @@ fn balanced(b: &[u8], q: &[u8], r: usize, z: usize, f: usize) -> bool
 
 // The first of four rows, numbered from `first`, that has less than it needs.
 fn first_short(have: CurveAmounts, need: CurveAmounts, first: u32) -> First
-    requires { ⌜ Numbered 374 first ⌝ }
+    requires { ⌜ Numbered mostRow first ⌝ }
     ensures { λ n. ⌜ n ≡ firstFalse first (shortTests have need) ⌝ }
 {
     if !units::at_least(have.operating, need.operating) {
@@ -113,7 +114,7 @@ fn zone_short(
     have: CurveAmounts,
     first: u32,
 ) -> First
-    requires { ⌜ Standing (now b) (now q) r z f × ((zone < z) × Numbered 374 first) ⌝ }
+    requires { ⌜ Standing (now b) (now q) r z f × ((zone < z) × Numbered mostRow first) ⌝ }
     requires { ⌜ have ≡ zoneTotal (now b) (now q) r zone ⌝ }
     ensures { λ n. ⌜ foundAt RowBroken n ≡ brokenFrom (now (b .entry)) (now (q .entry)) first (map (Zone zone) curves) ⌝ }
 {
@@ -121,7 +122,14 @@ fn zone_short(
     first_short(have, need, first)
 }
 
-fn zones_short(b: &[u8], q: &[u8], r: usize, z: usize, f: usize, have: [CurveAmounts; 8]) -> First
+fn zones_short(
+    b: &[u8],
+    q: &[u8],
+    r: usize,
+    z: usize,
+    f: usize,
+    have: [CurveAmounts; MOST_ZONES],
+) -> First
     requires { ⌜ Standing (now b) (now q) r z f × (have ≡ zoneTotals (now b) (now q) r) ⌝ }
     ensures { λ n. ⌜ foundAt RowBroken n ≡ brokenFrom (now (b .entry)) (now (q .entry)) 6 (zoneRows (caseOf (now (b .entry)))) ⌝ }
 {
@@ -159,7 +167,7 @@ pub fn flow(b: &[u8], q: &[u8], r: usize, z: usize, f: usize, g: usize) -> Watts
 
 // Its row, numbered `row`: at most the limit flows.
 fn flowgate_over(b: &[u8], q: &[u8], r: usize, z: usize, f: usize, g: usize, row: u32) -> First
-    requires { ⌜ Standing (now b) (now q) r z f × ((g < f) × Numbered 374 row) ⌝ }
+    requires { ⌜ Standing (now b) (now q) r z f × ((g < f) × Numbered mostRow row) ⌝ }
     ensures { λ n. ⌜ foundAt RowBroken n ≡ brokenFrom (now (b .entry)) (now (q .entry)) row (Flowgate g ∷ []) ⌝ }
 {
     let flows = flow(b, q, r, z, f, g);
@@ -172,7 +180,7 @@ fn flowgate_over(b: &[u8], q: &[u8], r: usize, z: usize, f: usize, g: usize, row
 }
 
 fn flowgates_over(b: &[u8], q: &[u8], r: usize, z: usize, f: usize, first: u32) -> First
-    requires { ⌜ Standing (now b) (now q) r z f × Numbered 54 first ⌝ }
+    requires { ⌜ Standing (now b) (now q) r z f × Numbered mostFirstLimit first ⌝ }
     ensures { λ n. ⌜ foundAt RowBroken n ≡ brokenFrom (now (b .entry)) (now (q .entry)) first (flowgateRows (caseOf (now (b .entry)))) ⌝ }
 {
     let mut row = first;
@@ -192,7 +200,7 @@ fn flowgates_over(b: &[u8], q: &[u8], r: usize, z: usize, f: usize, first: u32) 
 
 // The first of five rows, numbered from `first`, that amounts break: e+g+c ≤ MAX, e+s ≤ MAX, e-g ≥ MIN, e ≤ HI, e ≥ LO.
 fn first_outside(a: Amounts, l: ResourceLimits, first: u32) -> First
-    requires { ⌜ SmallAmounts a × Numbered 374 first ⌝ }
+    requires { ⌜ SmallAmounts a × Numbered mostRow first ⌝ }
     ensures { λ n. ⌜ n ≡ firstFalse first (limitTests a l) ⌝ }
 {
     let up = units::kw_sum(a.energy, a.regulation);
@@ -219,7 +227,7 @@ fn first_outside(a: Amounts, l: ResourceLimits, first: u32) -> First
 
 // The five rows of resource i, numbered from `first`.
 fn resource_outside(b: &[u8], q: &[u8], r: usize, z: usize, f: usize, i: usize, first: u32) -> First
-    requires { ⌜ Standing (now b) (now q) r z f × ((i < r) × Numbered 374 first) ⌝ }
+    requires { ⌜ Standing (now b) (now q) r z f × ((i < r) × Numbered mostRow first) ⌝ }
     ensures { λ n. ⌜ foundAt RowBroken n ≡ brokenFrom (now (b .entry)) (now (q .entry)) first (map (Limited i) limits) ⌝ }
 {
     let resource = readers::resource_at(b, r, z, f, i);
@@ -229,7 +237,7 @@ fn resource_outside(b: &[u8], q: &[u8], r: usize, z: usize, f: usize, i: usize, 
 }
 
 fn resources_outside(b: &[u8], q: &[u8], r: usize, z: usize, f: usize, first: u32) -> First
-    requires { ⌜ Standing (now b) (now q) r z f × Numbered 54 first ⌝ }
+    requires { ⌜ Standing (now b) (now q) r z f × Numbered mostFirstLimit first ⌝ }
     ensures { λ n. ⌜ foundAt RowBroken n ≡ brokenFrom (now (b .entry)) (now (q .entry)) first (limitRows (caseOf (now (b .entry)))) ⌝ }
 {
     let mut row = first;

@@ -15,14 +15,11 @@ use Rattle.wire.specs.CaseBytes.{CaseBytes}
 pub whole-case : (b : List ℕ) → T (countsRight (caseOf b .resources) (caseOf b .zones) (caseOf b .flowgates)) → T (caseSizeRight b (caseOf b)) → CaseBytes b (caseOf b .resources) (caseOf b .zones) (caseOf b .flowgates)
 unfolding caseOf caseSizeRight
 whole-case b counts size =
-    let m = counts-most (u8At b 5) (u8At b 6) (u8At b 7) counts in
     record {
       resources = refl;
       zones = refl;
       flowgates = refl;
-      most-resources = m .0;
-      most-zones = m .1;
-      most-flowgates = m .2;
+      counts = counts-most (u8At b 5) (u8At b 6) (u8At b 7) counts;
       size = eqb→eq (length b) (caseSize (u8At b 5) (u8At b 6) (u8At b 7)) size;
     }
 

@@ -2,8 +2,7 @@
 -- read back as the numbers.
 use mathlib.Core.Path.{_≡_, refl, sym, _∙_, ap}
 use mathlib.Core.List.{List, _++_}
-use Prim.Native.Nat.{ℕ, _+_, _*_, _-_, _<_, _≤_}
-use native.Mathlib.Nat.{mul-le-mul}
+use Prim.Native.Nat.{ℕ, _+_, _-_, _<_, _≤_}
 use native.Mathlib.Omega.{arith}
 use lib.IntN.{ℤ}
 use lib.ListN.{length, drop, take}
@@ -12,9 +11,10 @@ use Rattle.arith.specs.Sums.{totalOf}
 use Rattle.market.specs.declared.Refusal.{Refusal}
 use Rattle.market.specs.declared.Refusal.the-variants.{BufferShort}
 use Rattle.market.specs.declared.Transfer.{Transfer}
+use Rattle.market.specs.CaseCheck.{CountsWithin, largestCaseSize}
 use Rattle.market.specs.Refusals.{Finding, clear, holds, firstOf, transferOf, bufferAfter}
 use Rattle.market.specs.Numbers.{Field, fieldWidth, fileOf, fieldsFor, fileFor, listGrounds, readCase, readCaseBuffer, readCertificate, readCertificateBuffer, writeCase, writeCaseGrounds, writeCaseBuffer, writeCertificate, writeCertificateGrounds, writeCertificateBuffer}
-use Rattle.market.proofs.FileSizes.{case-fills, certificate-fills}
+use Rattle.market.proofs.FileSizes.{case-fills, certificate-fills, case-size-most, certificate-size-most}
 use Rattle.market.proofs.LentBuffer.{refused-before, too-short, long-enough}
 use Rattle.market.proofs.RoundTrips.{round-trips}
 use Rattle.market.specs.declared.Transfer.the-variants as W
@@ -47,9 +47,9 @@ file-front file vs r z f h size s rest out e =
     rw (e, file-is file vs r z f h, whole) (take-at (fileOfList file vs) rest size long)
 
 -- the largest
-pub size-most : (file : File) (r z f : ℕ) → r ≤ 64 → z ≤ 8 → f ≤ 16 → sizeOf file r z f ≤ 12266
-size-most Case r z f a b c = omega (arith, case-fills r z f, mul-le-mul {n₁ = f} {m₁ = 4 + r * 2} {n₂ = 16} {m₂ = 132} c (omega arith))
-size-most Certificate r z f a b c = omega (arith, certificate-fills r z f)
+pub size-most : (file : File) (r z f : ℕ) → CountsWithin r z f → sizeOf file r z f ≤ largestCaseSize
+size-most Case r z f n = omega (arith, case-fills r z f, case-size-most n)
+size-most Certificate r z f n = omega (arith, certificate-fills r z f, certificate-size-most n)
 
 -- ---- the answer and the buffer afterwards
 module _ (file : File) (vs : List ℤ) (old : List ℕ) where

@@ -41,21 +41,21 @@ count-from low high (negsuc n) t = absurd (and-split (leZ (pos low) (negsuc n)) 
 
 -- whether they are in range, test by test
 module _ (vs : List ℤ) where
-  pub resources-out : withinℤ (pos 1) (pos 64) (getD vs 0 (pos 0)) ≡ false → false ≡ countsInRange vs
+  pub resources-out : withinℤ (pos 1) (pos mostResources) (getD vs 0 (pos 0)) ≡ false → false ≡ countsInRange vs
   unfolding countsInRange
   resources-out r = rw r
 
-  pub zones-out : withinℤ (pos 1) (pos 64) (getD vs 0 (pos 0)) ≡ true → withinℤ (pos 1) (pos 8) (getD vs 1 (pos 0)) ≡ false → false ≡ countsInRange vs
+  pub zones-out : withinℤ (pos 1) (pos mostResources) (getD vs 0 (pos 0)) ≡ true → withinℤ (pos 1) (pos mostZones) (getD vs 1 (pos 0)) ≡ false → false ≡ countsInRange vs
   unfolding countsInRange
   zones-out r z = rw (r, z)
 
-  pub flowgates-left : withinℤ (pos 1) (pos 64) (getD vs 0 (pos 0)) ≡ true → withinℤ (pos 1) (pos 8) (getD vs 1 (pos 0)) ≡ true → withinℤ (pos 0) (pos 16) (getD vs 2 (pos 0)) ≡ countsInRange vs
+  pub flowgates-left : withinℤ (pos 1) (pos mostResources) (getD vs 0 (pos 0)) ≡ true → withinℤ (pos 1) (pos mostZones) (getD vs 1 (pos 0)) ≡ true → withinℤ (pos 0) (pos mostFlowgates) (getD vs 2 (pos 0)) ≡ countsInRange vs
   unfolding countsInRange
   flowgates-left r z = rw (r, z)
 
 -- counts in range: from 0 on, and at most so many
 pub counts-from : (vs : List ℤ) → countsInRange vs ≡ true
-    → ((leZ (pos 0) (getD vs 0 (pos 0)) ≡ true) × (countIn vs 0 ≤ 64)) × ((leZ (pos 0) (getD vs 1 (pos 0)) ≡ true) × (countIn vs 1 ≤ 8)) × ((leZ (pos 0) (getD vs 2 (pos 0)) ≡ true) × (countIn vs 2 ≤ 16))
+    → ((leZ (pos 0) (getD vs 0 (pos 0)) ≡ true) × (countIn vs 0 ≤ mostResources)) × ((leZ (pos 0) (getD vs 1 (pos 0)) ≡ true) × (countIn vs 1 ≤ mostZones)) × ((leZ (pos 0) (getD vs 2 (pos 0)) ≡ true) × (countIn vs 2 ≤ mostFlowgates))
 unfolding countsInRange
 counts-from vs e =
     let r = withinℤ (pos 1) (pos mostResources) (getD vs 0 (pos 0)) in
@@ -63,7 +63,7 @@ counts-from vs e =
     let f = withinℤ (pos 0) (pos mostFlowgates) (getD vs 2 (pos 0)) in
     let all = and-split (r && z) f (subst T (sym e) tt) in
     let two = and-split r z (all .0) in
-    (count-from 1 64 (getD vs 0 (pos 0)) (two .0), count-from 1 8 (getD vs 1 (pos 0)) (two .1), count-from 0 16 (getD vs 2 (pos 0)) (all .1))
+    (count-from 1 mostResources (getD vs 0 (pos 0)) (two .0), count-from 1 mostZones (getD vs 1 (pos 0)) (two .1), count-from 0 mostFlowgates (getD vs 2 (pos 0)) (all .1))
 
 -- ---- 16, 3, 16, each where the earlier ones have passed
 module _ (file : File) (vs : List ℤ) where
@@ -99,9 +99,7 @@ listed file vs h =
       resources = refl;
       zones = refl;
       flowgates = refl;
-      most-resources = most .0 .1;
-      most-zones = most .1 .1;
-      most-flowgates = most .2 .1;
+      counts = record { most-resources = most .0 .1; most-zones = most .1 .1; most-flowgates = most .2 .1 };
       fit = is-true fits (unless-clear fits R.NumberList (clear .1 .1 .0));
       none-holds = h;
     }

@@ -3,9 +3,10 @@
 use mathlib.Core.Bool.{true}
 use mathlib.Core.List.{List}
 use mathlib.Core.Path.{_≡_}
-use Prim.Native.Nat.{ℕ, _≤_}
+use Prim.Native.Nat.{ℕ}
 use lib.IntN.{ℤ}
 use Rattle.market.specs.Bytes.{withinℤ}
+use Rattle.market.specs.CaseCheck.{CountsWithin}
 use Rattle.market.specs.Refusals.{clear, firstOf}
 use Rattle.market.specs.Numbers.{Field, fieldLow, fieldHigh, numbersFit, countIn, listGrounds}
 use Rattle.fields.specs.declared.File.{File}
@@ -20,8 +21,6 @@ pub record Listed (file : File) (vs : List ℤ) (r z f : ℕ) : Type 0 where
   pub resources : r ≡ countIn vs 0
   pub zones : z ≡ countIn vs 1
   pub flowgates : f ≡ countIn vs 2
-  pub most-resources : r ≤ 64
-  pub most-zones : z ≤ 8
-  pub most-flowgates : f ≤ 16
+  pub counts : CountsWithin r z f
   pub fit : numbersFit (fieldsOf file r z f) vs ≡ true
   pub none-holds : firstOf (listGrounds (fieldsOf file) vs) ≡ clear

@@ -13,6 +13,7 @@ ghost use Prim.Native.Nat.{_+_, _<_, _≤_};
 ghost use lib.ListN.{length, drop, getD};
 ghost use lib.IntN.{pos};
 ghost use lib.Signed.{leZ};
+ghost use Rattle.market.specs.CaseCheck.{CountsWithin, largestCaseSize};
 ghost use Rattle.market.specs.Refusals.{clear, firstOf};
 ghost use Rattle.market.specs.Numbers.{fieldWidth, fieldBytes, bytesOf, numbersFit, fileOf, countIn, countsInRange, listGrounds, writeCase, writeCaseBuffer, writeCertificate, writeCertificateBuffer, readCase, readCaseBuffer, readCertificate, readCertificateBuffer};
 ghost use Rattle.wire.specs.Within.{Within, written};
@@ -62,15 +63,12 @@ fn put_numbers(
 
 // How many bytes a file has.
 fn file_size(file: File, resources: usize, zones: usize, flowgates: usize) -> u32
-    requires { ⌜ (resources ≤ 64) × (zones ≤ 8) × (flowgates ≤ 16) ⌝ }
-    ensures { λ n. ⌜ (n ≡ sizeOf file resources zones flowgates) × (n ≤ 12266) ⌝ }
+    requires { ⌜ CountsWithin resources zones flowgates ⌝ }
+    ensures { λ n. ⌜ (n ≡ sizeOf file resources zones flowgates) × (n ≤ largestCaseSize) ⌝ }
 {
-    let r = resources as u32;
-    let z = zones as u32;
-    let f = flowgates as u32;
     match file {
-        File::Case => 170 + z * 16 + r * 154 + f * (4 + r * 2),
-        File::Certificate => 44 + z * 16 + f * 4 + r * 40,
+        File::Case => market::case_size(resources, zones, flowgates) as u32,
+        File::Certificate => market::certificate_size(resources, zones, flowgates) as u32,
     }
 }
 
@@ -93,13 +91,13 @@ fn counts_in_range(v: &[i64]) -> bool
     let resources = v[0];
     let zones = v[1];
     let flowgates = v[2];
-    if !fields::within(resources, 1, 64) {
+    if !fields::within(resources, 1, market::MOST_RESOURCES as i64) {
         return false;
     }
-    if !fields::within(zones, 1, 8) {
+    if !fields::within(zones, 1, market::MOST_ZONES as i64) {
         return false;
     }
-    fields::within(flowgates, 0, 16)
+    fields::within(flowgates, 0, market::MOST_FLOWGATES as i64)
 }
 
 fn count_in(v: &[i64], k: usize) -> usize
@@ -122,7 +120,7 @@ fn counts_in(v: &[i64]) -> Counts
 }
 
 fn numbers_fit(file: File, v: &[i64], resources: usize, zones: usize, flowgates: usize) -> bool
-    requires { ⌜ (resources ≤ 64) × (zones ≤ 8) × (flowgates ≤ 16) ⌝ }
+    requires { ⌜ CountsWithin resources zones flowgates ⌝ }
     ensures { λ t. ⌜ t ≡ numbersFit (fieldsOf file resources zones flowgates) (now (v .entry)) ⌝ }
 {
     let count = fields::count(file, resources, zones, flowgates);
@@ -184,8 +182,7 @@ fn case_stage(v: &[i64]) -> Stage
     let resources = n.resources;
     let zones = n.zones;
     let flowgates = n.flowgates;
-    // the largest case file
-    let mut bytes = [0u8; 12266];
+    let mut bytes = [0u8; market::LARGEST_CASE_SIZE];
     filed_stage(v, resources, zones, flowgates, &mut bytes)
 }
 

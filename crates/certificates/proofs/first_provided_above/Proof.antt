@@ -48,7 +48,7 @@ amounts-at-requires : tie.Need-amounts-at-requires Inv-loop μ-loop
 amounts-at-requires c κs = (c .before .before .before .before .before .before .before .before .pre .certificate-bytes, omega arith)
 
 provided-above-requires : tie.Need-provided-above-requires Inv-loop μ-loop
-provided-above-requires c κs = omega (arith, c .before .before .before .before .before .before .before .before .before .pre .case-bytes .most-resources)
+provided-above-requires c κs = omega (arith, c .before .before .before .before .before .before .before .before .before .pre .case-bytes .counts .most-resources)
 
 -- what is found among a resource's five
 found : (c : tie.After-provided-above Inv-loop μ-loop) →
@@ -70,10 +70,10 @@ returns c =
     found-here (withinBound (caseOf (s .args .b .now)) (certificateOf (s .args .q .now))) _ (l .i) (l .place) (c .before .before .provided-above .result) (c .enum-told2 .given .0 .0) (omega arith) (l .inv .1) (l .inv .2) (found (c .before .before)) cc
 
 add-place : tie.Need-add-place Inv-loop μ-loop
-add-place c = omega (arith, c .before .before .before .before .before .before .before .before .before .before .before .before .pre .case-bytes .most-resources)
+add-place c = omega (arith, c .before .before .before .before .before .before .before .before .before .before .before .before .pre .case-bytes .counts .most-resources)
 
 add-i : tie.Need-add-i Inv-loop μ-loop
-add-i c = omega (arith, c .before .before .before .before .before .before .before .before .before .before .before .before .pre .case-bytes .most-resources)
+add-i c = omega (arith, c .before .before .before .before .before .before .before .before .before .before .before .before .pre .case-bytes .counts .most-resources)
 
 loop-again : tie.Need-loop-again Inv-loop μ-loop
 loop-again c =

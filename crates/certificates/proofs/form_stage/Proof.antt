@@ -11,7 +11,7 @@ returns : tie.Need-returns
 returns c = let h : c .before .before .case-stage .result ≡ Refused (c .enum-told .given .0 .0) = cc in refused-earlier _ _ _ _ (c .before .before .case-stage .ensures) h
 
 form-requires : tie.Need-form-requires
-form-requires c κs = let h : c .before .before .before .case-stage .result ≡ Passed (c .before .earlier .given .0 .0) = cc in let known = passed-bytes _ _ (sym (c .before .before .before .case-stage .ensures) ∙ h) in (known .most-resources, known .most-zones, known .most-flowgates)
+form-requires c κs = let h : c .before .before .before .case-stage .result ≡ Passed (c .before .earlier .given .0 .0) = cc in passed-bytes _ _ (sym (c .before .before .before .case-stage .ensures) ∙ h) .counts
 
 returns-2 : tie.Need-returns-2
 returns-2 c = let h : c .before .before .before .before .case-stage .result ≡ Passed (c .before .before .earlier .given .0 .0) = cc in let passed = sym (c .before .before .before .before .case-stage .ensures) ∙ h in form-after _ _ _ _ passed (c .form .ensures _ (passed-counts _ _ passed))

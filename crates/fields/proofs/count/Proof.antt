@@ -1,7 +1,5 @@
 -- `fields::count` meets its contract. Assumes nothing.
-use Rattle.market.proofs.FileSizes.{case-count, certificate-count}
-use native.Mathlib.Nat.{mul-le-mul}
-use Prim.Native.Nat.{_+_}
+use Rattle.market.proofs.FileSizes.{case-count, certificate-count, flowgate-numbers-within}
 use native.Mathlib.Omega.{arith}
 use mathlib.Core.Path.{sym}
 use borrow.Author.Needs.{needs}
@@ -9,10 +7,10 @@ use Rattle.fields.proofs.count.Statement.{statement}
 use Rattle.fields.proofs.count.Tie as tie
 
 mul-result-3 : tie.Need-mul-result-3
-mul-result-3 c = let a = c .before .before .args in let m = mul-le-mul {n₁ = a .flowgates} {m₁ = a .resources + 1} {n₂ = 16} {m₂ = 65} (omega arith) (omega arith) in omega arith
+mul-result-3 c = omega (arith, flowgate-numbers-within (c .before .before .pre))
 
 add-result-4 : tie.Need-add-result-4
-add-result-4 c = let a = c .before .before .args in let m = mul-le-mul {n₁ = a .flowgates} {m₁ = a .resources + 1} {n₂ = 16} {m₂ = 65} (omega arith) (omega arith) in omega arith
+add-result-4 c = omega (arith, flowgate-numbers-within (c .before .before .pre))
 
 returns : tie.Need-returns
 returns c = let a = c .before .before .args in rw (c .enum-told .given .1) (sym (case-count (a .resources) (a .zones) (a .flowgates)))

@@ -1,11 +1,13 @@
 -- `filings::limits_priced` meets its contract. The invariant: the prices of every resource's rows passed are in range; the measure is what is left. Assumes nothing.
 use mathlib.Core.Bool.{true}
-use mathlib.Core.Path.{_≡_, sym}
-use Prim.Native.Nat.{_≤_, _-_}
+use mathlib.Core.Path.{_≡_, sym, _∙_, ap}
+use Prim.Native.Nat.{ℕ, _+_, _≤_, _-_}
 use native.Mathlib.Omega.{arith}
 use borrow.Author.Needs.{needs}
 use Rattle.arith.proofs.AllTests.{all-none, all-more, all-stop}
 use Rattle.arith.specs.Sums.{upto, all}
+use Rattle.market.proofs.FileSizes.{fewer-resources}
+use Rattle.ranges.specs.Pieces.{numberAtMost}
 use Rattle.ranges.proofs.Laws.{passed, failed}
 use Rattle.filings.specs.PricePlaces.{limitsPriced}
 use Rattle.filings.proofs.limits_priced.Statement.{statement}
@@ -20,11 +22,29 @@ abbrev μ-loop : tie.MeasureT-loop
 loop-holds : tie.Need-loop-holds Inv-loop μ-loop
 loop-holds c = (omega arith, all-none (limitsPriced (c .before .args .q .now) (c .before .args .zones) (c .before .args .flowgates)))
 
+amounts-place-requires : tie.Need-amounts-place-requires Inv-loop μ-loop
+amounts-place-requires c κs = let s = c .before .before .before in fewer-resources {i = c .before .loop .i} (s .pre .counts) (omega arith)
+
+all-at-most-requires : tie.Need-all-at-most-requires Inv-loop μ-loop
+all-at-most-requires c κs = let s = c .before .before .before .before in omega (arith, c .amounts-place .ensures, s .pre .sized)
+
+-- the rows of the resource that the loop has reached
+here : (c : tie.After-all-at-most Inv-loop μ-loop) →
+    let s = c .before .before .before .before .before in
+    c .all-at-most .result ≡ limitsPriced (s .args .q .now) (s .args .zones) (s .args .flowgates) (c .before .before .before .loop .i)
+here c =
+    let s = c .before .before .before .before .before in
+    c .all-at-most .ensures ∙ ap (λ (p : ℕ). all (numberAtMost 400000000 (s .args .q .now) (p + 20)) (upto 5)) (c .before .amounts-place .ensures)
+
 returns : tie.Need-returns Inv-loop μ-loop
-returns c = sym (all-stop (limitsPriced (c .before .before .before .before .before .args .q .now) (c .before .before .before .before .before .args .zones) (c .before .before .before .before .before .args .flowgates)) _ (c .before .before .before .loop .i) (omega arith) (failed (c .before .all-at-most .ensures) (c .if1 .taken)))
+returns c =
+    let s = c .before .before .before .before .before .before in
+    sym (all-stop (limitsPriced (s .args .q .now) (s .args .zones) (s .args .flowgates)) _ (c .before .before .before .before .loop .i) (omega arith) (failed (here (c .before)) (c .if1 .taken)))
 
 loop-again : tie.Need-loop-again Inv-loop μ-loop
-loop-again c = (search needs, all-more (limitsPriced (c .before .before .before .before .before .args .q .now) (c .before .before .before .before .before .args .zones) (c .before .before .before .before .before .args .flowgates)) _ (c .before .before .before .loop .inv .1) (passed (c .before .all-at-most .ensures) (c .if1 .left)))
+loop-again c =
+    let s = c .before .before .before .before .before .before in
+    (search needs, all-more (limitsPriced (s .args .q .now) (s .args .zones) (s .args .flowgates)) _ (c .before .before .before .before .loop .inv .1) (passed (here (c .before)) (c .if1 .left)))
 
 returns-2 : tie.Need-returns-2 Inv-loop μ-loop
 returns-2 c = let e : c .before .loop .i ≡ c .before .before .before .args .resources = omega arith in rw (← e) (sym (c .before .loop .inv .1))
@@ -36,14 +56,9 @@ limits-priced-spec =
     Inv-loop
     μ-loop
     loop-holds
-    (λ c. search needs)
-    (λ c. search needs)
-    (λ c. search needs)
-    (λ c. search needs)
-    (λ c. search needs)
-    (λ c. search needs)
-    (λ c. search needs)
-    (λ c κs. search needs)
+    amounts-place-requires
+    (λ c. let s = c .before .before .before .before in omega (arith, c .amounts-place .ensures, s .pre .sized))
+    all-at-most-requires
     returns
     (λ c. search needs)
     (λ c. search needs)

@@ -6,9 +6,7 @@ use Rattle.filings.proofs.size_right.Tie as tie
 
 returns : tie.Need-returns
 unfolding sizeIs
-returns c = search needs
+returns c = rw (c .certificate-size .ensures)
 
 pub size-right-spec : {M : Type 1} → statement M
-size-right-spec =
-    tie.close
-    (tie.spec (λ c. search needs) (λ c. search needs) (λ c. search needs) (λ c. search needs) (λ c. search needs) (λ c. search needs) returns)
+size-right-spec = tie.close (tie.spec (λ c κs. search needs) returns)

@@ -13,19 +13,19 @@ use Rattle.lines.proofs.schedule_lines.Statement.{statement}
 use Rattle.lines.proofs.schedule_lines.Tie as tie
 
 sub-zone-lines : tie.Need-sub-zone-lines
-sub-zone-lines c = let s = c .before .before .before .before .before .before .before in let w = c .before .before .resource-lines in let cs = caseOf (s .args .b .now) in let k = certificateOf (s .args .q .now) in let m = resources-most cs k (s .args .r) in let h = s .pre .0 .case-bytes in omega (arith, w .kept .1 .1 .1 .1 .1 .0, w .ensures .0, m, h .most-resources)
+sub-zone-lines c = let s = c .before .before .before .before .before .before .before in let w = c .before .before .resource-lines in let cs = caseOf (s .args .b .now) in let k = certificateOf (s .args .q .now) in let m = resources-most cs k (s .args .r) in let h = s .pre .0 .case-bytes in omega (arith, w .kept .1 .1 .1 .1 .1 .0, w .ensures .0, m, h .counts .most-resources)
 
 part-zone-lines-start : tie.Need-part-zone-lines-start
-part-zone-lines-start c = let s = c .before .before .before .before .before .before .before in let w = c .before .before .resource-lines in let cs = caseOf (s .args .b .now) in let k = certificateOf (s .args .q .now) in let m = resources-most cs k (s .args .r) in let h = s .pre .0 .case-bytes in omega (arith, w .kept .1 .1 .1 .1 .1 .0, w .ensures .0, m, h .most-resources)
+part-zone-lines-start c = let s = c .before .before .before .before .before .before .before in let w = c .before .before .resource-lines in let cs = caseOf (s .args .b .now) in let k = certificateOf (s .args .q .now) in let m = resources-most cs k (s .args .r) in let h = s .pre .0 .case-bytes in omega (arith, w .kept .1 .1 .1 .1 .1 .0, w .ensures .0, m, h .counts .most-resources)
 
 zone-lines-requires : tie.Need-zone-lines-requires
-zone-lines-requires c κs = let s = c .before .before .before .before .before .before .before .before in let w = c .before .before .before .resource-lines in let cs = caseOf (s .args .b .now) in let k = certificateOf (s .args .q .now) in let m = resources-most cs k (s .args .r) in let h = s .pre .0 .case-bytes in (s .pre .0, rw (rest-length (w .result) (w .last .1 .1 .1 .1 .1 .0)) (omega (arith, w .kept .1 .1 .1 .1 .1 .0, w .ensures .0, m, h .most-resources, h .most-zones)))
+zone-lines-requires c κs = let s = c .before .before .before .before .before .before .before .before in let w = c .before .before .before .resource-lines in let cs = caseOf (s .args .b .now) in let k = certificateOf (s .args .q .now) in let m = resources-most cs k (s .args .r) in let h = s .pre .0 .case-bytes in (s .pre .0, rw (rest-length (w .result) (w .last .1 .1 .1 .1 .1 .0)) (omega (arith, w .kept .1 .1 .1 .1 .1 .0, w .ensures .0, m, h .counts .most-resources, h .counts .most-zones)))
 
 add-result : tie.Need-add-result
-add-result c = let s = c .before .before .before .before .before .before .before .before .before .before .before in let w = c .before .before .before .before .before .before .resource-lines in let x = c .before .before .zone-lines in let cs = caseOf (s .args .b .now) in let k = certificateOf (s .args .q .now) in let m = resources-most cs k (s .args .r) in let h = s .pre .0 .case-bytes in omega (arith, w .ensures .0, m, h .most-resources, x .ensures .0, zones-most cs k (s .args .z), h .most-zones)
+add-result c = let s = c .before .before .before .before .before .before .before .before .before .before .before in let w = c .before .before .before .before .before .before .resource-lines in let x = c .before .before .zone-lines in let cs = caseOf (s .args .b .now) in let k = certificateOf (s .args .q .now) in let m = resources-most cs k (s .args .r) in let h = s .pre .0 .case-bytes in omega (arith, w .ensures .0, m, h .counts .most-resources, x .ensures .0, zones-most cs k (s .args .z), h .counts .most-zones)
 
 returns : tie.Need-returns
-returns c = let s = c .before .before .before .before .before .before .before .before .before .before .before in let w = c .before .before .before .before .before .before .resource-lines in let x = c .before .before .zone-lines in let cs = caseOf (s .args .b .now) in let k = certificateOf (s .args .q .now) in let m = resources-most cs k (s .args .r) in let h = s .pre .0 .case-bytes in rw (← (schedule-is cs k (s .args .r) (s .args .z) (resources-is h) (zones-is h))) (wrote-on (across (resourceLine cs k) (upto (s .args .r))) (across (zoneLine k) (upto (s .args .z))) (s .args .out .now) (w .last .1 .1 .1 .1 .1 .0) (x .last .1 .1 .1 .1 .1 .0) (w .result) (x .result) (omega (arith, m, h .most-resources)) (w .ensures) (x .ensures))
+returns c = let s = c .before .before .before .before .before .before .before .before .before .before .before in let w = c .before .before .before .before .before .before .resource-lines in let x = c .before .before .zone-lines in let cs = caseOf (s .args .b .now) in let k = certificateOf (s .args .q .now) in let m = resources-most cs k (s .args .r) in let h = s .pre .0 .case-bytes in rw (← (schedule-is cs k (s .args .r) (s .args .z) (resources-is h) (zones-is h))) (wrote-on (across (resourceLine cs k) (upto (s .args .r))) (across (zoneLine k) (upto (s .args .z))) (s .args .out .now) (w .last .1 .1 .1 .1 .1 .0) (x .last .1 .1 .1 .1 .1 .0) (w .result) (x .result) (omega (arith, m, h .counts .most-resources)) (w .ensures) (x .ensures))
 
 pub schedule-lines-spec : {M : Type 1} → statement M
 schedule-lines-spec =

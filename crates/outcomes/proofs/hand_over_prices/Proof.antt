@@ -6,10 +6,10 @@ use Rattle.outcomes.proofs.hand_over_prices.Statement.{statement}
 use Rattle.outcomes.proofs.hand_over_prices.Tie as tie
 
 mul-if1 : tie.Need-mul-if1
-mul-if1 c = let s = c .before .before .before in let k = all-standing (s .args .b .now) (s .args .q .now) (s .args .n) (s .pre) .prices .case-bytes in omega (arith, k .most-resources, k .most-zones, k .most-flowgates)
+mul-if1 c = let s = c .before .before .before in let k = all-standing (s .args .b .now) (s .args .q .now) (s .args .n) (s .pre) .prices .case-bytes in omega (arith, k .counts .most-resources, k .counts .most-zones, k .counts .most-flowgates)
 
 add-if1 : tie.Need-add-if1
-add-if1 c = let s = c .before .before .before .before in let k = all-standing (s .args .b .now) (s .args .q .now) (s .args .n) (s .pre) .prices .case-bytes in omega (arith, k .most-resources, k .most-zones, k .most-flowgates)
+add-if1 c = let s = c .before .before .before .before in let k = all-standing (s .args .b .now) (s .args .q .now) (s .args .n) (s .pre) .prices .case-bytes in omega (arith, k .counts .most-resources, k .counts .most-zones, k .counts .most-flowgates)
 
 returns : tie.Need-returns
 returns c = let s = c .before .before .before .before .before in prices-short (s .args .b .now) (s .args .q .now) (s .args .out .now) (s .args .n) (s .pre) (c .if1 .taken)

@@ -46,7 +46,7 @@ price-sum-requires c κs =
     let s = c .before .before .before .before .before .before .before in
     let g = c .before .before .before .before .loop .g in
     rw (term c, c .before .before .before .before .loop .inv .1)
-    (omega (arith, congestion-size (s .pre .0) g (s .args .i) (omega arith) (s .pre .1), congestion-so-far (s .pre .0) g (s .args .i) (omega arith) (s .pre .1), s .pre .0 .case-bytes .most-flowgates))
+    (omega (arith, congestion-size (s .pre .0) g (s .args .i) (omega arith) (s .pre .1), congestion-so-far (s .pre .0) g (s .args .i) (omega arith) (s .pre .1), s .pre .0 .case-bytes .counts .most-flowgates))
 
 loop-again : tie.Need-loop-again Inv-loop μ-loop
 loop-again c = (omega arith, c .price-sum .ensures ∙ rw (term (c .before), c .before .before .before .before .before .loop .inv .1, sum-upto))

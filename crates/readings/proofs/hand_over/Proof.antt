@@ -18,7 +18,7 @@ pass : (c : tie.After-counts-at) → Past (c .before .before .args .file) (c .be
 pass c = let s = c .before .before in passed (s .args .file) (s .args .b .now) (counts c) (s .pre) (c .counts-at .ensures)
 
 count-requires : tie.Need-count-requires
-count-requires c κs = let p = pass c .2 in (p .most-resources, p .most-zones, p .most-flowgates)
+count-requires c κs = pass c .2 .counts
 
 returns : tie.Need-returns
 returns c = let k = c .before .before in let s = k .before .before in let p = pass k in let e = c .before .count .ensures in read-short (s .args .file) (s .args .b .now) (s .args .out .now) (counts k) (p .1) (p .0) (omega arith)
@@ -27,7 +27,7 @@ read-numbers-requires : tie.Need-read-numbers-requires
 read-numbers-requires c κs = let k = c .before .before .before in let e = c .before .before .count .ensures in (pass k .2, omega arith)
 
 cast-t15 : tie.Need-cast-t15
-cast-t15 c = let k = c .before .before .before .before .before in let p = pass k .2 in let e = c .before .before .before .before .count .ensures in let m = count-small (k .before .before .args .file) (counts k .resources) (counts k .zones) (counts k .flowgates) (p .most-resources) (p .most-zones) (p .most-flowgates) in omega arith
+cast-t15 c = let k = c .before .before .before .before .before in let p = pass k .2 in let e = c .before .before .before .before .count .ensures in let m = count-small (k .before .before .args .file) (counts k .resources) (counts k .zones) (counts k .flowgates) (p .counts) in omega arith
 
 returns-2 : tie.Need-returns-2
 returns-2 c = let k = c .before .before .before .before .before in let s = k .before .before in let p = pass k in let e = c .before .before .before .before .count .ensures in rw e (read-whole (s .args .file) (s .args .b .now) (s .args .out .now) (counts k) (p .1) (p .0) _ (omega arith) (c .before .read-numbers .ensures))

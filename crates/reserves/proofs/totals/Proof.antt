@@ -12,7 +12,7 @@ use Rattle.reserves.specs.declared.ZonedAmounts.{ZonedAmounts}
 use Rattle.reserves.specs.Given.{zonedAmountsOf, marketTotal, zoneTotals}
 use Rattle.reserves.proofs.Known.{given-small}
 use Rattle.reserves.proofs.Sums.{sums-more, sums-room}
-use Rattle.reserves.proofs.Zones.{zone-from-one, zone-of-eight, zone-room, zones-more}
+use Rattle.reserves.proofs.Zones.{zone-from-one, zone-below, zone-room, zones-more}
 use borrow.Author.Needs.{needs}
 use Rattle.reserves.proofs.totals.Statement.{statement}
 use Rattle.reserves.proofs.totals.Tie as tie
@@ -47,13 +47,13 @@ amounts-sum-requires c κs =
     let s = c .before .before .before .before .before .before .before in
     let l = c .before .before .before .loop in
     rw (l .inv .1, own-is (c .before))
-    (sums-room (λ k. reserveOf (caseOf (s .args .b .now)) (certificateOf (s .args .q .now) .amount) k) (s .args .r) (s .pre .prices .case-bytes .most-resources) (given-small (s .pre)) (l .i) (omega arith))
+    (sums-room (λ k. reserveOf (caseOf (s .args .b .now)) (certificateOf (s .args .q .now) .amount) k) (s .args .r) (s .pre .prices .case-bytes .counts .most-resources) (given-small (s .pre)) (l .i) (omega arith))
 
 sub-zone : tie.Need-sub-zone Inv-loop μ-loop
 sub-zone c = zone-from-one (c .before .before .before .before .before .before .before .before .before .pre) (c .before .before .before .before .before .loop .i) _ (omega arith) (zone-is (c .before .before .before))
 
 in-array : tie.Need-array-copy-out-amounts-sum Inv-loop μ-loop
-in-array c = zone-of-eight (c .before .before .before .before .before .before .before .before .before .pre) (c .before .before .before .before .before .loop .i) _ (omega arith) (zone-is (c .before .before .before))
+in-array c = zone-below (c .before .before .before .before .before .before .before .before .before .pre) (c .before .before .before .before .before .loop .i) _ (omega arith) (zone-is (c .before .before .before))
 
 amounts-sum-requires-2 : tie.Need-amounts-sum-requires-2 Inv-loop μ-loop
 amounts-sum-requires-2 c κs =
@@ -65,7 +65,7 @@ array-set-from-zones : tie.Need-array-set-from-zones Inv-loop μ-loop
 array-set-from-zones c = in-array (c .before .before)
 
 add-i : tie.Need-add-i Inv-loop μ-loop
-add-i c = let s = c .before .before .before .before .before .before .before .before .before .before .before in omega (arith, s .pre .prices .case-bytes .most-resources)
+add-i c = let s = c .before .before .before .before .before .before .before .before .before .before .before in omega (arith, s .pre .prices .case-bytes .counts .most-resources)
 
 loop-again : tie.Need-loop-again Inv-loop μ-loop
 loop-again c =

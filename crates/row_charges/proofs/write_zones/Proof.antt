@@ -30,7 +30,7 @@ unfolding upto across
 loop-holds c = search needs
 
 in-array : tie.Need-array-copy-out-write-zone Inv-loop μ-loop
-in-array c = let s = c .before .before .before .before in omega (arith, s .pre .0 .0 .prices .case-bytes .most-zones)
+in-array c = let s = c .before .before .before .before in omega (arith, s .pre .0 .0 .prices .case-bytes .counts .most-zones)
 
 write-zone-requires : tie.Need-write-zone-requires Inv-loop μ-loop
 write-zone-requires c κs =

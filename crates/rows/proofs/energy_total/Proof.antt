@@ -30,7 +30,7 @@ unfolding amountsOf
 kw-sum-requires c κs =
     let s = c .before .before .before .before in
     rw (c .amounts-at .ensures, c .before .before .loop .inv .1)
-    (energy-room (s .args .q .now) (s .args .r) (s .pre .1) (s .pre .0 .resources-most) (c .before .before .loop .i) (omega arith))
+    (energy-room (s .args .q .now) (s .args .r) (s .pre .1) (s .pre .0 .counts .most-resources) (c .before .before .loop .i) (omega arith))
 
 loop-again : tie.Need-loop-again Inv-loop μ-loop
 unfolding amountsOf

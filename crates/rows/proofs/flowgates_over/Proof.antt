@@ -28,7 +28,7 @@ loop-holds : tie.Need-loop-holds Inv-loop μ-loop
 loop-holds c = let s = c .before .before in (omega arith, omega arith, search-none (rowMet (caseOf (s .args .b .now)) (certificateOf (s .args .q .now))) RowBroken (λ g. Flowgate g ∷ []) 1 (λ i. refl) (s .args .first))
 
 flowgate-over-requires : tie.Need-flowgate-over-requires Inv-loop μ-loop
-flowgate-over-requires c κs = let s = c .before .before .before .before in (s .pre .0, (omega arith, record { to = omega (arith, s .pre .0 .prices .case-bytes .most-flowgates) }))
+flowgate-over-requires c κs = let s = c .before .before .before .before in (s .pre .0, (omega arith, record { to = omega (arith, s .pre .0 .prices .case-bytes .counts .most-flowgates) }))
 
 -- what is found there, by the row's number
 told : (c : tie.After-flowgate-over Inv-loop μ-loop) →
@@ -43,7 +43,7 @@ returns c = let s = c .before .before .before .before .before .before .before in
     search-stop (rowMet (caseOf (s .args .b .now)) (certificateOf (s .args .q .now))) RowBroken (λ g. Flowgate g ∷ []) 1 (λ i. refl) (s .args .first) (c .before .before .before .before .loop .g) ((caseOf (s .args .b .now)) .flowgates) (c .before .before .flowgate-over .result) (c .enum-told2 .given .0 .0) (flowgate-below (s .pre .0 .prices) (omega arith)) at (c .before .before .before .before .loop .inv .2) (told (c .before .before)) ∙ ap (firstFailing (rowMet (caseOf (s .args .b .now)) (certificateOf (s .args .q .now))) RowBroken (s .args .first)) (flowgate-blocks (caseOf (s .args .b .now)))
 
 add-row : tie.Need-add-row Inv-loop μ-loop
-add-row c = let s = c .before .before .before .before .before .before .before in omega (arith, s .pre .0 .prices .case-bytes .most-flowgates)
+add-row c = let s = c .before .before .before .before .before .before .before in omega (arith, s .pre .0 .prices .case-bytes .counts .most-flowgates)
 
 loop-again : tie.Need-loop-again Inv-loop μ-loop
 loop-again c =

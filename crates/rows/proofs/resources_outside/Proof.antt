@@ -27,7 +27,7 @@ loop-holds : tie.Need-loop-holds Inv-loop μ-loop
 loop-holds c = let s = c .before .before in (omega arith, omega arith, search-none (rowMet (caseOf (s .args .b .now)) (certificateOf (s .args .q .now))) RowBroken (λ i. map (Limited i) limits) 5 (λ i. refl) (s .args .first))
 
 resource-outside-requires : tie.Need-resource-outside-requires Inv-loop μ-loop
-resource-outside-requires c κs = let s = c .before .before .before .before in (s .pre .0, (omega arith, record { to = omega (arith, s .pre .0 .prices .case-bytes .most-resources) }))
+resource-outside-requires c κs = let s = c .before .before .before .before in (s .pre .0, (omega arith, record { to = omega (arith, s .pre .0 .prices .case-bytes .counts .most-resources) }))
 
 -- what is found there, by the row's number
 told : (c : tie.After-resource-outside Inv-loop μ-loop) →
@@ -42,7 +42,7 @@ returns c = let s = c .before .before .before .before .before .before .before in
     search-stop (rowMet (caseOf (s .args .b .now)) (certificateOf (s .args .q .now))) RowBroken (λ i. map (Limited i) limits) 5 (λ i. refl) (s .args .first) (c .before .before .before .before .loop .i) ((caseOf (s .args .b .now)) .resources) (c .before .before .resource-outside .result) (c .enum-told2 .given .0 .0) (resource-below (s .pre .0 .prices) (omega arith)) at (c .before .before .before .before .loop .inv .2) (told (c .before .before))
 
 add-row : tie.Need-add-row Inv-loop μ-loop
-add-row c = let s = c .before .before .before .before .before .before .before in omega (arith, s .pre .0 .prices .case-bytes .most-resources)
+add-row c = let s = c .before .before .before .before .before .before .before in omega (arith, s .pre .0 .prices .case-bytes .counts .most-resources)
 
 loop-again : tie.Need-loop-again Inv-loop μ-loop
 loop-again c =

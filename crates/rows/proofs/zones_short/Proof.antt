@@ -30,13 +30,13 @@ loop-holds : tie.Need-loop-holds Inv-loop μ-loop
 loop-holds c = let s = c .before .before in (omega arith, omega arith, search-none (rowMet (caseOf (s .args .b .now)) (certificateOf (s .args .q .now))) RowBroken (λ y. map (Zone y) curves) 4 (λ i. refl) 6)
 
 in-array : tie.Need-array-copy-out-zone-short Inv-loop μ-loop
-in-array c = let s = c .before .before .before .before in omega (arith, s .pre .0 .prices .case-bytes .most-zones)
+in-array c = let s = c .before .before .before .before in omega (arith, s .pre .0 .prices .case-bytes .counts .most-zones)
 
 zone-short-requires : tie.Need-zone-short-requires Inv-loop μ-loop
 zone-short-requires c κs =
     let s = c .before .before .before .before .before in
     let zone = c .before .before .loop .zone in (
-      (s .pre .0, (omega arith, record { to = omega (arith, s .pre .0 .prices .case-bytes .most-zones) })),
+      (s .pre .0, (omega arith, record { to = omega (arith, s .pre .0 .prices .case-bytes .counts .most-zones) })),
       rw (s .pre .1) (table-entry _ (zoneTotal (s .args .b .now) (s .args .q .now) (s .args .r)) 8 zone (in-array (c .before))),
     )
 
@@ -53,7 +53,7 @@ returns c = let s = c .before .before .before .before .before .before .before .b
     search-stop (rowMet (caseOf (s .args .b .now)) (certificateOf (s .args .q .now))) RowBroken (λ y. map (Zone y) curves) 4 (λ i. refl) 6 (c .before .before .before .before .before .loop .zone) ((caseOf (s .args .b .now)) .zones) (c .before .before .zone-short .result) (c .enum-told2 .given .0 .0) (zone-below (s .pre .0 .prices) (omega arith)) at (c .before .before .before .before .before .loop .inv .2) (told (c .before .before))
 
 add-row : tie.Need-add-row Inv-loop μ-loop
-add-row c = let s = c .before .before .before .before .before .before .before .before in omega (arith, s .pre .0 .prices .case-bytes .most-zones)
+add-row c = let s = c .before .before .before .before .before .before .before .before in omega (arith, s .pre .0 .prices .case-bytes .counts .most-zones)
 
 loop-again : tie.Need-loop-again Inv-loop μ-loop
 loop-again c =

@@ -23,7 +23,7 @@ filed-stage-requires : tie.Need-filed-stage-requires
 filed-stage-requires c κs = let s = c .before .before .before .before .before in let n = c .before .before .earlier .given .0 .0 in
     let h : stageOf (countsOf (s .args .v .now)) (firstOf (listGrounds (fieldsOf Case) (s .args .v .now))) ≡ Passed n = cc in
     let p = list-passed Case (s .args .v .now) n h in
-    (p, size-most Case (n .resources) (n .zones) (n .flowgates) (p .most-resources) (p .most-zones) (p .most-flowgates))
+    (p, size-most Case (n .resources) (n .zones) (n .flowgates) (p .counts))
 
 pub case-stage-spec : {M : Type 1} → statement M
 case-stage-spec =

@@ -6,6 +6,7 @@ use mir.Syntax.{w64}
 use mir.Facts.{toZ-ofZ}
 use borrow.Author.Needs.{sfits-of, needs}
 use Rattle.market.specs.Bytes.{withinℤ}
+use Rattle.market.specs.CaseCheck.{mostFlowgates}
 use Rattle.ranges.proofs.Laws.{passed, failed}
 use Rattle.writings.proofs.Stages.{resources-out, zones-out, flowgates-left}
 use Rattle.writings.proofs.counts_in_range.Statement.{statement}
@@ -19,7 +20,7 @@ returns-2 c = let vs = c .before .before .before .before .before .before .before
 
 returns-3 : tie.Need-returns-3
 returns-3 c = let vs = c .before .before .before .before .before .before .before .before .args .v .now in
-    let e : c .within3 .result ≡ withinℤ (pos 0) (pos 16) (getD vs 2 (pos 0)) = c .within3 .ensures ∙ rw (toZ-ofZ (sfits-of {w = w64} (c .before .before .before .before .before .flowgates .given))) in
+    let e : c .within3 .result ≡ withinℤ (pos 0) (pos mostFlowgates) (getD vs 2 (pos 0)) = c .within3 .ensures ∙ rw (toZ-ofZ (sfits-of {w = w64} (c .before .before .before .before .before .flowgates .given))) in
     e ∙ flowgates-left vs (passed (c .before .before .before .before .within .ensures ∙ rw (toZ-ofZ (sfits-of {w = w64} (c .before .before .before .before .before .before .before .resources .given)))) (c .before .before .before .if1 .left)) (passed (c .before .before .within2 .ensures ∙ rw (toZ-ofZ (sfits-of {w = w64} (c .before .before .before .before .before .before .zones .given)))) (c .before .if2 .left))
 
 pub counts-in-range-spec : {M : Type 1} → statement M
@@ -29,9 +30,12 @@ counts-in-range-spec =
     (λ c. search needs)
     (λ c. search needs)
     (λ c. search needs)
+    (λ c. search needs)
     (λ c κs. search needs)
     returns
+    (λ c. search needs)
     (λ c κs. search needs)
     returns-2
+    (λ c. search needs)
     (λ c κs. search needs)
     returns-3)

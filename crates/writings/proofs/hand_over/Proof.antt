@@ -19,7 +19,7 @@ pass : (c : tie.After-counts-in) → Listed (c .before .before .args .file) (c .
 pass c = let s = c .before .before in passed (s .args .file) (s .args .v .now) (counts c) (s .pre) (c .counts-in .ensures)
 
 file-size-requires : tie.Need-file-size-requires
-file-size-requires c κs = let p = pass c in (p .most-resources, p .most-zones, p .most-flowgates)
+file-size-requires c κs = pass c .counts
 
 returns : tie.Need-returns
 returns c = let k = c .before .before in let s = k .before .before in let e = c .before .file-size .ensures .0 in write-short (s .args .file) (s .args .v .now) (s .args .out .now) (counts k .resources) (counts k .zones) (counts k .flowgates) (pass k) (s .pre) (omega arith)

@@ -25,7 +25,7 @@ counts-in-requires c κs = (omega arith, right c)
 numbers-fit-requires : tie.Need-numbers-fit-requires
 numbers-fit-requires c κs =
     let m = counts-from (c .before .before .before .before .args .v .now) (right (c .before)) in
-    rw (c .counts-in .ensures) (m .0 .1, m .1 .1, m .2 .1)
+    rw (c .counts-in .ensures) record { most-resources = m .0 .1; most-zones = m .1 .1; most-flowgates = m .2 .1 }
 
 returns-3 : tie.Need-returns-3
 returns-3 c = let d = c .before .before .before in let s = d .before .before .before in by-numbers (s .args .file) (s .args .v .now) _ (c .before .before .counts-in .ensures) (omega arith) (right d) (failed (c .before .numbers-fit .ensures) (c .if3 .taken))
