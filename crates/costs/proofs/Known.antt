@@ -9,7 +9,7 @@ use Rattle.arith.proofs.Magnitudes.{abs-add, abs-neg, abs-sub}
 use Rattle.arith.proofs.NaturalSums.{upto-size, sum-size}
 use Rattle.market.specs.Case.{Case, Curve, curves, operating, regulatingPlusSpinning, regulating, shortTerm}
 use Rattle.market.specs.CaseFile.{caseOf}
-use Rattle.market.specs.UpperBounds.{Schedule, Service, Provided, Cleared, energy, regulation, contingency, offLineShortTerm}
+use Rattle.market.specs.UpperBounds.{Schedule, Cleared, energy}
 use Rattle.market.specs.Certificate.{certificateOf}
 use Rattle.market.specs.Records.{recordOf, offerStepsOf, curveStepsOf, amountsOf}
 use Rattle.market.specs.Fits.{Fits64}
@@ -18,9 +18,9 @@ use Rattle.records.specs.Ranged.{UpTo, Ranged, RangedSteps, RangedCurve, offerS
 use Rattle.records.proofs.Ranged.{valid-resource, valid-steps, curve-ranged}
 use Rattle.units.specs.Room.{SumRoom}
 use Rattle.prices.specs.Standing.{Standing}
-use Rattle.prices.proofs.Known.{case-ranges, resource-below}
+use Rattle.prices.proofs.Known.{case-ranges, resource-below, amount-small, amounts-small}
 use Rattle.costs.specs.Steps.{mostInSteps, stepsWorth}
-use Rattle.costs.specs.Worth.{resourceWorth, curveValue, reservesWorth, SmallAmounts}
+use Rattle.costs.specs.Worth.{resourceWorth, curveValue, reservesWorth}
 use Rattle.costs.proofs.Filling.{steps-size, offer-ranges, curve-ranges}
 use Rattle.costs.proofs.Totals.{reserves-size, resource-worth-is, curve-value-is}
 
@@ -32,9 +32,6 @@ module _ {b q : List ℕ} {r z f : ℕ} (s : Standing b q r z f) where
   x = certificateOf q .amount
 
   -- ---- a resource
-  amount-most : (i : ℕ) → i < r → (v : Service) → x (Provided i v) ≤ 2000000
-  amount-most i l v = amount-of c (case-ranges (s .prices)) x (s .bounded) (Provided i v) (resource-below (s .prices) l)
-
   pub resource-known : (i : ℕ) → i < r → Ranged (recordOf (c .resource i))
   resource-known i l = valid-resource b (s .prices .valid) i (resource-below (s .prices) l)
 
@@ -43,22 +40,13 @@ module _ {b q : List ℕ} {r z f : ℕ} (s : Standing b q r z f) where
 
   pub energy-known : (i : ℕ) → i < r → UpTo (amountsOf x i .energy .0) 2000000
   unfolding amountsOf
-  energy-known i l = record { natural = refl; at-most = amount-most i l energy }
-
-  pub amounts-known : (i : ℕ) → i < r → SmallAmounts (amountsOf x i)
-  unfolding amountsOf
-  amounts-known i l =
-      record {
-        regulation = amount-most i l regulation;
-        contingency = amount-most i l contingency;
-        off-line-short-term = amount-most i l offLineShortTerm;
-      }
+  energy-known i l = record { natural = refl; at-most = amount-small s i energy l }
 
   energy-size : (i : ℕ) → i < r → natAbs (stepsWorth (offerStep (offerStepsOf (c .resource i))) (natAbs (amountsOf x i .energy .0)) 10) ≤ 8000000000000
   energy-size i l = steps-size (offer-ranges (steps-known i l)) (omega arith) (omega arith) (natAbs (amountsOf x i .energy .0)) 10 (omega arith)
 
   pub resource-room : (i : ℕ) → i < r → SumRoom (stepsWorth (offerStep (offerStepsOf (c .resource i))) (natAbs (amountsOf x i .energy .0)) 10) (reservesWorth (recordOf (c .resource i) .offers) (amountsOf x i))
-  resource-room i l = omega (arith, energy-size i l, reserves-size (resource-known i l .offers) (amounts-known i l))
+  resource-room i l = omega (arith, energy-size i l, reserves-size (resource-known i l .offers) (amounts-small s i l))
 
   resource-size : (i : ℕ) → i < r → natAbs (resourceWorth c x i) ≤ 10400000000000
   resource-size i l =
@@ -67,7 +55,7 @@ module _ {b q : List ℕ} {r z f : ℕ} (s : Standing b q r z f) where
         arith,
         abs-add (stepsWorth (offerStep (offerStepsOf (c .resource i))) (natAbs (amountsOf x i .energy .0)) 10) (reservesWorth (recordOf (c .resource i) .offers) (amountsOf x i)),
         energy-size i l,
-        reserves-size (resource-known i l .offers) (amounts-known i l),
+        reserves-size (resource-known i l .offers) (amounts-small s i l),
       ))
 
   -- ---- the first n resources

@@ -18,8 +18,9 @@ use Rattle.market.specs.declared.ReserveOffers.{ReserveOffers}
 use Rattle.records.specs.Ranged.{offerStep, curveStep, RangedOffers}
 use Rattle.records.proofs.Ranged.{offer-step-is, curve-step-is}
 use Rattle.units.specs.Room.{ProductRoom}
+use Rattle.prices.specs.Standing.{SmallAmounts}
 use Rattle.costs.specs.Steps.{stepsWorth}
-use Rattle.costs.specs.Worth.{worthOf, resourceWorth, curveValue, reservesWorth, SmallAmounts}
+use Rattle.costs.specs.Worth.{worthOf, resourceWorth, curveValue, reservesWorth}
 use Rattle.costs.proofs.Filling.{steps-worth-is}
 
 -- ---- a price and an amount of a resource

@@ -1,6 +1,6 @@
 -- What amounts are worth at their prices in cents.
-use Prim.Native.Nat.{ℕ, _≤_}
-use lib.IntN.{ℤ, pos, natAbs, _*ℤ_, _+ℤ_}
+use Prim.Native.Nat.{ℕ}
+use lib.IntN.{ℤ, pos, _*ℤ_, _+ℤ_}
 use Rattle.arith.specs.Sums.{sumOf, upto}
 use Rattle.market.specs.Case.{Case, Curve, curveSteps}
 use Rattle.market.specs.UpperBounds.{Schedule}
@@ -28,9 +28,3 @@ curveValue c x k = sumOf (λ j. pos (c .curvePrice k j) *ℤ pos (part c x (Curv
 unfoldable pub reservesWorth : ReserveOffers → Amounts → ℤ
 reservesWorth p a =
     p .regulating .0 *ℤ a .regulation .0 +ℤ (p .contingency .0 *ℤ a .contingency .0 +ℤ p .«off_line_short_term» .0 *ℤ a .«off_line_short_term» .0)
-
--- what a resource can be given of them
-pub record SmallAmounts (a : Amounts) : Type 0 where
-  pub regulation : natAbs (a .regulation .0) ≤ 2000000
-  pub contingency : natAbs (a .contingency .0) ≤ 2000000
-  pub off-line-short-term : natAbs (a .«off_line_short_term» .0) ≤ 2000000

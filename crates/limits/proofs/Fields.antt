@@ -8,7 +8,13 @@ use Rattle.market.specs.Case.{Resource as Figures}
 use Rattle.market.specs.Records.{power, perMinute, recordOf, stateOf, outputLimitsOf, rampsOf, startsOf}
 use Rattle.market.specs.declared.Kw.{Kw}
 use Rattle.market.specs.declared.Resource.{Resource}
+use Rattle.market.specs.declared.State.{State}
 use Rattle.market.proofs.StatusBits.{on-line-supplemental-kept}
+
+-- a test t of a state's flags is one of the figures'
+pub state-flags-are : {x : State} (s : Figures) → x ≡ stateOf s → (f : ℕ → Bool) {t : Bool} → t ≡ f (x .flags .0) → t ≡ f (s .flags)
+unfolding stateOf
+state-flags-are s e f told = told ∙ ap (λ (x : State). f (x .flags .0)) e
 
 module _ {r : Resource} (s : Figures) (e : r ≡ recordOf s) where
   pub state-is : r .state ≡ stateOf s
@@ -67,10 +73,9 @@ module _ {r : Resource} (s : Figures) (e : r ≡ recordOf s) where
   unfolding recordOf startsOf
   self-schedule-is = ap (λ (x : Resource). x .starts .«self_schedule») e
 
-  -- a test t of the record's flags is one of the figures'
+  -- and of the record's flags
   pub flags-are : (f : ℕ → Bool) {t : Bool} → t ≡ f (r .state .flags .0) → t ≡ f (s .flags)
-  unfolding recordOf stateOf
-  flags-are f told = told ∙ ap (λ (x : Resource). f (x .state .flags .0)) e
+  flags-are f told = state-flags-are s state-is f told
 
   -- and so is the one of flag 2 and status 8
   pub carries-is : {t : Bool} → t ≡ (spinningFlag (r .state .flags .0) || onLineSupplemental (r .state .status .0)) → t ≡ (spinningFlag (s .flags) || onLineSupplemental (s .status))

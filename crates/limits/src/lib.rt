@@ -10,6 +10,7 @@ ghost use Rattle.market.specs.Bits.{regulatingFlag, spinningFlag, onLineSupplem
 ghost use Rattle.market.specs.Case.{Case, Resource as Figures, Curve, Reserve, regulatingReserve, contingencyReserve, shortTermReserve, widthOf, energySteps};
 ghost use Rattle.market.specs.Availability.{onLine};
 ghost use Rattle.market.specs.Limits.{MAX, MIN, HI, LO, rampFloor};
+ghost use Rattle.market.specs.Rows.{isSpinning};
 ghost use Rattle.market.specs.UpperBounds.{RAMP, SHARE, onLineBound, serviceBound, upperBound, energy, regulation, contingency, onLineShortTerm, offLineShortTerm, Cleared};
 ghost use Rattle.market.specs.Records.{power, perMinute, stateOf, recordOf, reserveTermsOf, termsOf, offerStepsOf, curveStepsOf};
 ghost use Rattle.records.specs.Ranged.{UpTo, Ranged, RangedSteps, RangedTerms, RangedCurve};
@@ -149,6 +150,24 @@ pub fn on_line(r: Resource) -> bool
 {
     let state = r.state;
     state_on_line(state)
+}
+
+// Its contingency reserve is spinning: it is on-line, `on`, and has flag 2.
+pub fn spinning(on: bool, t: State) -> bool
+    ensures { λ v. ⌜ ((s : Figures) → on ≡ onLine s → t ≡ stateOf s → v ≡ isSpinning s) ⌝ }
+{
+    let flags = t.flags;
+    on & flags.spinning()
+}
+
+// Of its state alone. A branch on the first answer is foreseen more often than one on both.
+pub fn state_spinning(t: State) -> bool
+    ensures { λ v. ⌜ ((s : Figures) → t ≡ stateOf s → v ≡ isSpinning s) ⌝ }
+{
+    if state_on_line(t) {
+        return spinning(true, t);
+    }
+    false
 }
 
 // ---- limits: whether the resource is on-line, `on`, is decided once for all of them

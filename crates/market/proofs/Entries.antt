@@ -8,8 +8,8 @@ use Rattle.arith.specs.Sums.{sumOf}
 use Rattle.arith.proofs.Linear.{sorted, count}
 use Rattle.market.specs.Case.{Resource, Curve, operating, regulatingPlusSpinning, regulating, shortTerm, curves, curveNumber}
 use Rattle.market.specs.UpperBounds.{Service, energy, regulation, contingency, onLineShortTerm, offLineShortTerm, services}
-use Rattle.market.specs.Rows.{Limit, maxWithReserve, maxWithShortTerm, minimum, high, low, limits, none, one, less, entries, spins, inReserve, inLimit}
-use Rattle.market.specs.InWords.{isSpinning, reserveGiven}
+use Rattle.market.specs.Rows.{Limit, maxWithReserve, maxWithShortTerm, minimum, high, low, limits, none, one, less, entries, spins, inReserve, inLimit, isSpinning}
+use Rattle.market.specs.InWords.{reserveGiven}
 
 pub none-* : (a : ℤ) → none *ℤ a ≡ pos 0
 unfolding none

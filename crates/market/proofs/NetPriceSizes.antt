@@ -9,12 +9,12 @@ use Rattle.arith.proofs.NaturalSums.{total-most, size-sum}
 use Rattle.market.specs.Case.{Case, Curve, operating, regulatingPlusSpinning, regulating, shortTerm, energySteps}
 use Rattle.market.specs.CaseCheck.{mostFlowgates}
 use Rattle.market.specs.UpperBounds.{Service, energy, regulation, contingency, onLineShortTerm, offLineShortTerm, Provided}
-use Rattle.market.specs.Rows.{Balance, Market, Zone, Flowgate, Limited, Limit, maxWithReserve, maxWithShortTerm, minimum, high, low}
+use Rattle.market.specs.Rows.{Balance, Market, Zone, Flowgate, Limited, Limit, maxWithReserve, maxWithShortTerm, minimum, high, low, isSpinning}
 use Rattle.market.specs.Certificate.{Prices}
 use Rattle.market.specs.Cost.{Priced, EnergyStep, Whole, CurveStep, quantityOf, servicePrice, offer}
 use Rattle.market.specs.Bound.{netPrice}
 use Rattle.market.specs.Prices.{LMP, bothRows, regulatingPrice, spinningPrice, supplementalPrice, shortTermPrice}
-use Rattle.market.specs.InWords.{isSpinning, Placed, NetPricesInWords}
+use Rattle.market.specs.InWords.{Placed, NetPricesInWords}
 use Rattle.market.proofs.NetPrices.{net-prices-in-words}
 use Rattle.market.proofs.Families.{PricedOf, PricedWhole}
 use Rattle.market.specs.Sizes.{mostCents, mostPrice, mostLmp, mostRegulatingPrice, mostSpinningPrice, mostSupplementalPrice, mostShortTermPrice, mostNet}

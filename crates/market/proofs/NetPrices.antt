@@ -11,12 +11,12 @@ use Rattle.arith.proofs.Linear.{sorted, count}
 use Rattle.arith.proofs.Sums.{sum-ext, sum-neg, sum-zero}
 use Rattle.market.specs.Case.{Case, Curve, curves, operating, regulatingPlusSpinning, regulating, shortTerm}
 use Rattle.market.specs.UpperBounds.{energy, regulation, contingency, onLineShortTerm, offLineShortTerm, Cleared}
-use Rattle.market.specs.Rows.{Balance, Market, Zone, Flowgate, Limited, maxWithReserve, maxWithShortTerm, minimum, high, low, limits, none, entries, coefficient}
+use Rattle.market.specs.Rows.{Balance, Market, Zone, Flowgate, Limited, maxWithReserve, maxWithShortTerm, minimum, high, low, limits, none, entries, coefficient, isSpinning}
 use Rattle.market.specs.Certificate.{Prices}
 use Rattle.market.specs.Cost.{EnergyStep, Whole, CurveStep, quantityOf, servicePrice, offer}
 use Rattle.market.specs.Bound.{rowValue, netPrice}
 use Rattle.market.specs.Prices.{LMP, regulatingPrice, spinningPrice, supplementalPrice, shortTermPrice}
-use Rattle.market.specs.InWords.{isSpinning, limitPrices, Placed, NetPricesInWords}
+use Rattle.market.specs.InWords.{limitPrices, Placed, NetPricesInWords}
 use Rattle.market.proofs.TakenByRows.{rows-sum, taken}
 use Rattle.market.proofs.Entries.{*-one, *-none, cleared-price}
 

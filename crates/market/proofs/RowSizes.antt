@@ -7,8 +7,7 @@ use lib.IntN.{ℤ}
 use Rattle.arith.proofs.Magnitudes.{Size, size-nat, size-neg, size-mul}
 use Rattle.market.specs.Case.{Case, Resource, Curve, operating, regulatingPlusSpinning, regulating, shortTerm, curveNumber}
 use Rattle.market.specs.UpperBounds.{Service, energy, regulation, contingency, onLineShortTerm, offLineShortTerm, Quantity, Cleared, Provided}
-use Rattle.market.specs.Rows.{Row, Balance, Market, Zone, Flowgate, Limited, Limit, maxWithReserve, maxWithShortTerm, minimum, high, low, none, one, less, entries, spins, inReserve, inLimit, coefficient, rightSide}
-use Rattle.market.specs.InWords.{isSpinning}
+use Rattle.market.specs.Rows.{Row, Balance, Market, Zone, Flowgate, Limited, Limit, maxWithReserve, maxWithShortTerm, minimum, high, low, none, one, less, entries, spins, inReserve, inLimit, coefficient, rightSide, isSpinning}
 use Rattle.market.proofs.Families.{RowOf, QuantityOf}
 use Rattle.market.specs.Sizes.{mostLimit, mostCoefficient, mostRight}
 use Rattle.market.proofs.Ranges.{CaseRanges}

@@ -1,17 +1,15 @@
 -- The table in the words of 01: the slack of each kind of row as the sum that 'Rows' writes, and the net price of each kind
 -- of priced quantity without a sum over all rows. The cost theorem alone holds of many tables; these say which one it is.
 use mathlib.Core.Path.{_≡_}
-use mathlib.Core.Bool.{Bool, true, false, cond, _&&_}
+use mathlib.Core.Bool.{cond}
 use Prim.Native.Nat.{ℕ, suc, _<_}
 use lib.Dec.{eqb}
-use lib.IntN.{ℤ, pos, negℤ, _+ℤ_, _*ℤ_, _-ℤ_}
+use lib.IntN.{ℤ, pos, _+ℤ_, _*ℤ_, _-ℤ_}
 use Rattle.arith.specs.Sums.{sumOf, upto}
-use Rattle.market.specs.Bits.{spinningFlag}
 use Rattle.market.specs.Case.{Case, Resource, Curve, operating, regulatingPlusSpinning, regulating, shortTerm}
-use Rattle.market.specs.Availability.{onLine}
 use Rattle.market.specs.Limits.{MAX, MIN, HI, LO}
 use Rattle.market.specs.UpperBounds.{Service, energy, regulation, contingency, onLineShortTerm, offLineShortTerm, Cleared, Provided, Schedule}
-use Rattle.market.specs.Rows.{Row, Balance, Market, Zone, Flowgate, Limited, maxWithReserve, maxWithShortTerm, minimum, high, low, slack}
+use Rattle.market.specs.Rows.{Balance, Market, Zone, Flowgate, Limited, maxWithReserve, maxWithShortTerm, minimum, high, low, isSpinning, slack}
 use Rattle.market.specs.Certificate.{Prices}
 use Rattle.market.specs.Cost.{EnergyStep, Whole, CurveStep}
 use Rattle.market.specs.Bound.{netPrice}
@@ -20,10 +18,6 @@ use Rattle.market.specs.Prices.{LMP, regulatingPrice, spinningPrice, sup
 -- ---- rows
 abbrev pub kwOf : Schedule → ℕ → Service → ℤ
 kwOf x i s = pos (x (Provided i s))
-
--- spin is c of an on-line resource with flag 2
-abbrev pub isSpinning : Resource → Bool
-isSpinning r = onLine r && spinningFlag (r .flags)
 
 -- what a resource that provides v gives to a reserve row: g+c, g+spin, g, s+o
 abbrev pub reserveGiven : Resource → Curve → (Service → ℤ) → ℤ

@@ -1,6 +1,6 @@
 -- The rows, numbered from 1, and one table: a quantity's coefficient in a row and the row's right side, every row written
 -- 'at least' with all quantities on its left (01, 'Rows', 'Certificate, cost, bound, charges').
-use mathlib.Core.Bool.{cond, _&&_}
+use mathlib.Core.Bool.{Bool, cond, _&&_}
 use mathlib.Core.List.{List, [], _∷_, _++_, map}
 use mathlib.Core.Path.{_≡_}
 use Prim.Native.Nat.{ℕ, suc, _+_, _*_, _≤_}
@@ -80,8 +80,11 @@ entries e g c s o onLineShortTerm = s
 entries e g c s o offLineShortTerm = o
 
 -- spin is c of an on-line resource with flag 2
+abbrev pub isSpinning : Resource → Bool
+isSpinning r = onLine r && spinningFlag (r .flags)
+
 unfoldable pub spins : Resource → ℤ
-spins r = cond (onLine r && spinningFlag (r .flags)) one none
+spins r = cond (isSpinning r) one none
 
 -- g+c, g+spin, g, s+o
 unfoldable pub inReserve : Resource → Curve → Service → ℤ

@@ -1,31 +1,26 @@
 -- What is known of the records from which a resource's net prices are made, and what they make.
 use mathlib.Core.Path.{_≡_, refl, ap}
 use mathlib.Core.Bool.{Bool, true, false, cond}
-use mathlib.Core.List.{List}
-use Prim.Native.Nat.{ℕ, _-_, _<_, _≤_}
+use Prim.Native.Nat.{ℕ, _-_, _<_}
 use native.Mathlib.Omega.{arith}
 use lib.IntN.{ℤ, pos, _+ℤ_, _-ℤ_, _*ℤ_}
 use Rattle.arith.proofs.Linear.{sorted, count}
 use Rattle.arith.proofs.Magnitudes.{Size, size-add, size-sub}
 use Rattle.market.specs.Case.{Case, Resource}
-use Rattle.market.specs.CaseFile.{caseOf}
 use Rattle.market.specs.declared.Resource.{Resource as Record}
 use Rattle.market.specs.UpperBounds.{regulation, contingency, onLineShortTerm, offLineShortTerm}
-use Rattle.market.specs.Rows.{Limited, Limit, maxWithReserve, maxWithShortTerm, minimum, high, low}
+use Rattle.market.specs.Rows.{Limited, Limit, maxWithReserve, maxWithShortTerm, minimum, high, low, isSpinning}
 use Rattle.market.specs.Certificate.{Prices}
 use Rattle.market.specs.Cost.{EnergyStep, Whole, quantityOf}
 use Rattle.market.specs.Bound.{netPrice}
 use Rattle.market.specs.Prices.{LMP, spinningPrice, supplementalPrice}
-use Rattle.market.specs.InWords.{isSpinning, limitPrices, Placed, NetPricesInWords}
+use Rattle.market.specs.InWords.{limitPrices, Placed, NetPricesInWords}
 use Rattle.market.specs.Sizes.{mostPrice}
 use Rattle.market.specs.Records.{millicents, recordOf, stateOf, reserveOffersOf, limitPricesOf}
 use Rattle.market.proofs.NetPrices.{net-prices-in-words}
 use Rattle.market.proofs.Ranges.{CaseRanges, PriceRanges}
 use Rattle.market.proofs.NetPriceSizes.{lmp-size, regulating-size, spinning-size, supplemental-size, short-term-size, net-size}
-use Rattle.records.proofs.Places.{zones-is}
-use Rattle.prices.specs.Standing.{PricesStand}
 use Rattle.prices.specs.ZonePrices.{zonePricesOf}
-use Rattle.prices.proofs.Known.{case-ranges, prices-in-range, resource-below}
 use Rattle.nets.specs.NetPrices.{netsOf, netsFrom}
 use Rattle.nets.specs.Sizes.{SmallOffers, SmallLimitPrices, SmallZonePrices, SmallLmp, SmallNets}
 
@@ -106,14 +101,6 @@ module _ (c : Case) (y : Prices) (h : CaseRanges c) (p : PriceRanges c y) (i : �
         on-line-short-term = net-size c y h p (Whole i onLineShortTerm) (n, tt) .le;
         off-line-short-term = net-size c y h p (Whole i offLineShortTerm) (n, tt) .le;
       }
-
--- ---- of what is read
-module _ {b q : List ℕ} {r z f : ℕ} (s : PricesStand b q r z f) where
-  pub zone-from-one : (i : ℕ) → i < r → 1 ≤ caseOf b .resource i .zone
-  zone-from-one i h = case-ranges s .resource i (resource-below s h) .zone-from
-
-  pub zone-in-case : (i : ℕ) → i < r → caseOf b .resource i .zone - 1 < z
-  zone-in-case i h = let n = resource-below s h in omega (arith, placed _ _ (case-ranges s) (prices-in-range s) i n .zone-below, zones-is (s .case-bytes))
 
 -- the zone in a resource's record
 pub zone-is : {x : Record} (s : Resource) → x ≡ recordOf s → x .state .zone ≡ s .zone

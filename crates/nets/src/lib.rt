@@ -5,10 +5,8 @@ ghost use mathlib.Core.Bool.{cond};
 ghost use Prim.Native.Nat.{_+_, _*_, _<_};
 ghost use lib.IntN.{natAbs, pos, _+ℤ_, _-ℤ_, _*ℤ_};
 ghost use Rattle.market.specs.Availability.{onLine};
-ghost use Rattle.market.specs.Case.{Resource as Figures};
 ghost use Rattle.market.specs.CaseFile.{caseOf};
 ghost use Rattle.market.specs.Certificate.{certificateOf};
-ghost use Rattle.market.specs.InWords.{isSpinning};
 ghost use Rattle.market.specs.Records.{recordOf, millicents};
 ghost use Rattle.market.specs.Sizes.{mostPrice, mostServiceNet, mostCurveNet};
 ghost use Rattle.market.specs.UpperBounds.{energy};
@@ -133,17 +131,6 @@ fn nets_of(
     }
 }
 
-// Its contingency reserve is spinning: it is on-line, `on`, and has flag 2.
-fn spinning(on: bool, r: Resource) -> bool
-    ensures { λ t. ⌜ ((s : Figures) → on ≡ onLine s → r ≡ recordOf s → t ≡ isSpinning s) ⌝ }
-{
-    if !on {
-        return false;
-    }
-    let flags = r.state.flags;
-    flags.spinning()
-}
-
 // The net prices of resource i, whose record has been read; `on` is whether it is on-line.
 pub fn nets_for(
     b: &[u8],
@@ -160,7 +147,7 @@ pub fn nets_for(
 {
     let state = resource.state;
     let zone = state.zone as usize - 1;
-    let spins = spinning(on, resource);
+    let spins = limits::spinning(on, state);
     let own = entries::limit_prices_at(q, r, z, f, i);
     let lmp = prices::lmp(b, q, r, z, f, i);
     let prices = prices::zone_prices(b, q, r, z, f, zone);

@@ -1,23 +1,25 @@
 -- What a standing case and certificate are known to be: ranges by number.
 use mathlib.Core.Path.{_≡_, refl}
 use mathlib.Core.List.{List}
-use Prim.Native.Nat.{ℕ, _<_, _≤_, _*_}
+use Prim.Native.Nat.{ℕ, _-_, _*_, _<_, _≤_}
 use native.Mathlib.Nat.{mul-le-mul}
 use native.Mathlib.Omega.{arith}
-use lib.IntN.{ℤ, pos, natAbs, _*ℤ_, _-ℤ_}
+use lib.IntN.{pos, natAbs, _*ℤ_, _-ℤ_}
 use Rattle.arith.specs.Sums.{sumOf, upto}
 use Rattle.arith.proofs.Magnitudes.{abs-mul}
 use Rattle.arith.proofs.NaturalSums.{upto-size}
 use Rattle.market.specs.CaseFile.{caseOf}
 use Rattle.market.specs.Case.{operating, regulatingPlusSpinning, regulating, shortTerm}
+use Rattle.market.specs.UpperBounds.{Service, energy, regulation, contingency, onLineShortTerm, offLineShortTerm, Provided}
 use Rattle.market.specs.Rows.{Balance, Market, Zone, Flowgate}
 use Rattle.market.specs.Certificate.{Prices, certificateOf}
 use Rattle.market.proofs.Ranges.{CaseRanges, PriceRanges, valid-ranges, price-ranges}
+use Rattle.market.proofs.ScheduleSizes.{amount-of}
 use Rattle.records.proofs.Places.{resources-is, zones-is, flowgates-is}
 use Rattle.market.specs.Prices.{LMP, regulatingPrice, spinningPrice, supplementalPrice, shortTermPrice}
-use Rattle.market.specs.Records.{reservePricesOf}
+use Rattle.market.specs.Records.{reservePricesOf, amountsOf}
 use Rattle.units.specs.Room.{SumRoom, ProductRoom}
-use Rattle.prices.specs.Standing.{PricesStand}
+use Rattle.prices.specs.Standing.{PricesStand, Standing, SmallAmounts}
 use Rattle.prices.specs.ZonePrices.{SmallPrices, addedPrices, zonePricesOf}
 
 module _ {b q : List ℕ} {r z f : ℕ} (s : PricesStand b q r z f) where
@@ -35,6 +37,13 @@ module _ {b q : List ℕ} {r z f : ℕ} (s : PricesStand b q r z f) where
 
   pub zone-below : {y : ℕ} → y < z → y < caseOf b .zones
   zone-below h = omega (arith, zones-is (s .case-bytes))
+
+  -- a resource's zone, counted from 1
+  pub zone-from-one : {i : ℕ} → i < r → 1 ≤ caseOf b .resource i .zone
+  zone-from-one {i} h = case-ranges .resource i (resource-below h) .zone-from
+
+  pub zone-in-case : {i : ℕ} → i < r → caseOf b .resource i .zone - 1 < z
+  zone-in-case {i} h = omega (arith, zone-from-one h, case-ranges .resource i (resource-below h) .zone-to, zones-is (s .case-bytes))
 
   pub balance-size : natAbs (certificateOf q .price Balance) ≤ 400000000
   balance-size = prices-in-range .price Balance tt .le
@@ -100,3 +109,19 @@ module _ {b q : List ℕ} {r z f : ℕ} (s : PricesStand b q r z f) where
 pub zone-prices-are : (y : Prices) (zone : ℕ) → addedPrices (reservePricesOf y Market) (reservePricesOf y (Zone zone)) ≡ zonePricesOf y zone
 unfolding addedPrices reservePricesOf zonePricesOf regulatingPrice spinningPrice supplementalPrice shortTermPrice
 zone-prices-are y zone = refl
+
+-- ---- amounts within their bounds
+module _ {b q : List ℕ} {r z f : ℕ} (s : Standing b q r z f) where
+  pub amount-small : (i : ℕ) (v : Service) → i < r → certificateOf q .amount (Provided i v) ≤ 2000000
+  amount-small i v h = amount-of (caseOf b) (case-ranges (s .prices)) (certificateOf q .amount) (s .bounded) (Provided i v) (resource-below (s .prices) h)
+
+  pub amounts-small : (i : ℕ) → i < r → SmallAmounts (amountsOf (certificateOf q .amount) i)
+  unfolding amountsOf
+  amounts-small i h =
+      record {
+        energy = amount-small i energy h;
+        regulation = amount-small i regulation h;
+        contingency = amount-small i contingency h;
+        on-line-short-term = amount-small i onLineShortTerm h;
+        off-line-short-term = amount-small i offLineShortTerm h;
+      }

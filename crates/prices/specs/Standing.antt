@@ -1,8 +1,10 @@
 -- What is known of a case and a certificate once 12, and once 13, has been tested.
 use mathlib.Core.List.{List}
-use Prim.Native.Nat.{ℕ, _<_}
+use Prim.Native.Nat.{ℕ, _≤_}
+use lib.IntN.{natAbs}
 use lib.Dec.{T}
 use Rattle.arith.specs.Sums.{all}
+use Rattle.market.specs.declared.Amounts.{Amounts}
 use Rattle.market.specs.CaseFile.{caseOf}
 use Rattle.market.specs.Rows.{rows, Bounded}
 use Rattle.market.specs.Certificate.{certificateOf}
@@ -21,3 +23,11 @@ pub record PricesStand (b q : List ℕ) (r z f : ℕ) : Type 0 where
 pub record Standing (b q : List ℕ) (r z f : ℕ) : Type 0 where
   pub prices : PricesStand b q r z f
   pub bounded : Bounded (caseOf b) (certificateOf q .amount)
+
+-- amounts of a resource, each within its bound and so at most 2,000,000 kW
+pub record SmallAmounts (a : Amounts) : Type 0 where
+  pub energy : natAbs (a .energy .0) ≤ 2000000
+  pub regulation : natAbs (a .regulation .0) ≤ 2000000
+  pub contingency : natAbs (a .contingency .0) ≤ 2000000
+  pub on-line-short-term : natAbs (a .«on_line_short_term» .0) ≤ 2000000
+  pub off-line-short-term : natAbs (a .«off_line_short_term» .0) ≤ 2000000

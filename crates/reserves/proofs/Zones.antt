@@ -12,9 +12,8 @@ use Rattle.market.specs.CaseCheck.{mostZones}
 use Rattle.market.specs.Certificate.{certificateOf}
 use Rattle.market.specs.InWords.{reserveOf, reserveInZone}
 use Rattle.market.specs.Records.{curveAmountsOf}
-use Rattle.records.proofs.Places.{zones-is}
 use Rattle.prices.specs.Standing.{Standing}
-use Rattle.prices.proofs.Known.{case-ranges, resource-below}
+use Rattle.prices.proofs.Known.{zone-from-one, zone-in-case}
 use Rattle.reserves.specs.Given.{SumsRoom, addedAmounts, zoneTotal, zoneTotals}
 use Rattle.reserves.proofs.Known.{at-home, elsewhere, given-in-zone-small}
 use Rattle.reserves.proofs.Sums.{sums-more, sums-same, sums-room}
@@ -29,17 +28,17 @@ module _ {b q : List ℕ} {r z f : ℕ} (s : Standing b q r z f) (i n : ℕ) (h 
   abbrev own : CurveAmounts
   own = curveAmountsOf (λ k. reserveOf (caseOf b) (certificateOf q .amount) k i)
 
-  pub zone-from-one : 1 ≤ n
-  zone-from-one = omega (arith, case-ranges (s .prices) .resource i (resource-below (s .prices) h) .zone-from)
+  pub own-zone-from-one : 1 ≤ n
+  own-zone-from-one = omega (arith, zone-from-one (s .prices) h)
 
   pub zone-below : n - 1 < mostZones
-  zone-below = omega (arith, zone-from-one, case-ranges (s .prices) .resource i (resource-below (s .prices) h) .zone-to, zones-is (s .prices .case-bytes), s .prices .case-bytes .counts .most-zones)
+  zone-below = omega (arith, zone-in-case (s .prices) h, s .prices .case-bytes .counts .most-zones)
 
   own-in-zone : own ≡ curveAmountsOf (λ k. inZone (n - 1) k i)
-  own-in-zone = at-home (caseOf b) (certificateOf q .amount) i (n - 1) (omega (arith, zone-from-one))
+  own-in-zone = at-home (caseOf b) (certificateOf q .amount) i (n - 1) (omega (arith, own-zone-from-one))
 
   zone-same : (y : ℕ) → (y ≡ n - 1 → ⊥) → zoneTotal b q i y ≡ zoneTotal b q (i + 1) y
-  zone-same y l = sums-same (inZone y) i (elsewhere (caseOf b) (certificateOf q .amount) i y (λ k. l (omega (arith, zone-from-one))))
+  zone-same y l = sums-same (inZone y) i (elsewhere (caseOf b) (certificateOf q .amount) i y (λ k. l (omega (arith, own-zone-from-one))))
 
   -- d is what an array's read gives beyond the end
   module _ (d : CurveAmounts) where

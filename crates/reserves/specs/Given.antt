@@ -1,7 +1,7 @@
 -- Amounts and sums for the reserve rows, by value, and what their additions ask for.
 use mathlib.Core.List.{List, map}
-use Prim.Native.Nat.{ℕ, _≤_}
-use lib.IntN.{natAbs, _+ℤ_}
+use Prim.Native.Nat.{ℕ}
+use lib.IntN.{_+ℤ_}
 use Rattle.arith.specs.Sums.{sumOf, upto}
 use Rattle.market.specs.declared.Amounts.{Amounts}
 use Rattle.market.specs.declared.CurveAmounts.{CurveAmounts}
@@ -16,14 +16,6 @@ use Rattle.market.specs.Records.{kw, curveAmountsOf}
 use Rattle.units.specs.Room.{SumRoom}
 use Rattle.reserves.specs.declared.ReserveTotals.{ReserveTotals}
 use Rattle.reserves.specs.declared.ZonedAmounts.{ZonedAmounts}
-
--- amounts of a resource, each within its bound and so at most 2,000,000 kW
-pub record SmallAmounts (a : Amounts) : Type 0 where
-  pub energy : natAbs (a .energy .0) ≤ 2000000
-  pub regulation : natAbs (a .regulation .0) ≤ 2000000
-  pub contingency : natAbs (a .contingency .0) ≤ 2000000
-  pub on-line-short-term : natAbs (a .«on_line_short_term» .0) ≤ 2000000
-  pub off-line-short-term : natAbs (a .«off_line_short_term» .0) ≤ 2000000
 
 -- g+c, g+spin, g, s+o
 unfoldable pub givenBy : Amounts → Kw → CurveAmounts

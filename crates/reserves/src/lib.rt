@@ -7,10 +7,10 @@ ghost use lib.IntN.{pos, natAbs};
 ghost use Rattle.market.specs.Case.{Resource as Figures};
 ghost use Rattle.market.specs.CaseFile.{caseOf};
 ghost use Rattle.market.specs.Certificate.{certificateOf};
-ghost use Rattle.market.specs.InWords.{isSpinning};
+ghost use Rattle.market.specs.Rows.{isSpinning};
 ghost use Rattle.market.specs.Records.{kw, curveAmountsOf, stateOf};
-ghost use Rattle.prices.specs.Standing.{Standing};
-ghost use Rattle.reserves.specs.Given.{SmallAmounts, SumsRoom, givenBy, zonedAmountsOf, addedAmounts, totalsOf};
+ghost use Rattle.prices.specs.Standing.{Standing, SmallAmounts};
+ghost use Rattle.reserves.specs.Given.{SumsRoom, givenBy, zonedAmountsOf, addedAmounts, totalsOf};
 use market::Amounts;
 use market::CurveAmounts;
 use market::Kw;
@@ -23,11 +23,7 @@ use market::State;
 fn spinning(state: State, contingency: Kw) -> Kw
     ensures { λ a. ⌜ ((s : Figures) → state ≡ stateOf s → a ≡ kw (cond (isSpinning s) (contingency .0) (pos 0))) ⌝ }
 {
-    if !limits::state_on_line(state) {
-        return Kw(0);
-    }
-    let flags = state.flags;
-    if flags.spinning() {
+    if limits::state_spinning(state) {
         return contingency;
     }
     Kw(0)

@@ -24,7 +24,7 @@ use Rattle.market.proofs.ScheduleSizes.{amount-of, slack-size}
 use Rattle.market.proofs.ChargeSizes.{row-charge-size}
 use Rattle.units.specs.Room.{ProductRoom}
 use Rattle.limits.specs.Together.{limitsOf}
-use Rattle.reserves.specs.Given.{SmallAmounts}
+use Rattle.prices.specs.Standing.{SmallAmounts}
 use Rattle.row_charges.specs.Families.{RowChargeRoom, FourRoom, FiveRoom}
 use Rattle.market.specs.Sizes.{mostCents, mostDemand, mostFactor, mostFlowgateLimit, mostPrice}
 

@@ -13,7 +13,7 @@ use Rattle.market.specs.Certificate.{certificateOf}
 use Rattle.market.specs.Charges.{rowCharge}
 use Rattle.limits.specs.declared.ResourceLimits.{ResourceLimits}
 use Rattle.units.specs.Room.{SumRoom, ProductRoom}
-use Rattle.reserves.specs.Given.{SmallAmounts}
+use Rattle.prices.specs.Standing.{SmallAmounts}
 
 -- a row's charge, of the case in b and the certificate in q
 abbrev pub rowChargeIn : List ℕ → List ℕ → Row → ℤ

@@ -27,8 +27,7 @@ use Rattle.market.proofs.FirstFailing.{orElse, first-append, first-none, passes
 use Rattle.records.specs.Ranged.{Ranged}
 use Rattle.records.proofs.Ranged.{valid-resource}
 use Rattle.prices.specs.Standing.{Standing}
-use Rattle.prices.proofs.Known.{factor-size, resource-below}
-use Rattle.reserves.proofs.Known.{amount-small}
+use Rattle.prices.proofs.Known.{factor-size, resource-below, amount-small}
 use Rattle.units.specs.Room.{SumRoom, ProductRoom}
 use Rattle.rows.specs.Tests.{EnergyBounded}
 use Rattle.rows.proofs.Search.{found-here, found-next}

@@ -5,7 +5,8 @@ use Rattle.market.specs.Records.{recordOf, offerStepsOf}
 use Rattle.market.specs.Certificate.{certificateOf}
 use Rattle.market.specs.CaseFile.{caseOf}
 use Rattle.costs.specs.Worth.{thousands}
-use Rattle.costs.proofs.Known.{resource-known, steps-known, energy-known, amounts-known, resource-room}
+use Rattle.prices.proofs.Known.{amounts-small}
+use Rattle.costs.proofs.Known.{resource-known, steps-known, energy-known, resource-room}
 use Rattle.costs.proofs.Totals.{resource-worth-is}
 use Rattle.costs.proofs.resource_worth.Statement.{statement}
 use Rattle.costs.proofs.resource_worth.Tie as tie
@@ -22,7 +23,7 @@ energy-worth-requires : tie.Need-energy-worth-requires
 energy-worth-requires c κs = let s = c .before .before .before .before .before in rw (steps c, c .before .amounts-at .ensures) (steps-known (s .pre .0) (s .args .i) (s .pre .1), energy-known (s .pre .0) (s .args .i) (s .pre .1))
 
 reserves-worth-requires : tie.Need-reserves-worth-requires
-reserves-worth-requires c κs = let s = c .before .before .before .before .before .before in rw (found (c .before .before .before), c .before .before .amounts-at .ensures) (resource-known (s .pre .0) (s .args .i) (s .pre .1) .offers, amounts-known (s .pre .0) (s .args .i) (s .pre .1))
+reserves-worth-requires c κs = let s = c .before .before .before .before .before .before in rw (found (c .before .before .before), c .before .before .amounts-at .ensures) (resource-known (s .pre .0) (s .args .i) (s .pre .1) .offers, amounts-small (s .pre .0) (s .args .i) (s .pre .1))
 
 sum-requires : tie.Need-sum-requires
 sum-requires c κs = let s = c .before .before .before .before .before .before .before in rw (c .before .energy-worth .ensures, c .reserves-worth .ensures, steps (c .before .before), found (c .before .before .before .before), c .before .before .before .amounts-at .ensures) (resource-room (s .pre .0) (s .args .i) (s .pre .1))

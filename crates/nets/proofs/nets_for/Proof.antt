@@ -1,8 +1,9 @@
 -- `nets::nets_for` meets its contract: from its zone's prices, its LMP and its own rows. Assumes nothing.
-use Rattle.nets.proofs.Known.{zone-from-one, zone-in-case, zone-is, offers-small, limit-prices-small, lmp-small, zone-prices-small, nets-are}
-use Rattle.prices.proofs.Known.{case-ranges, prices-in-range, resource-below}
+use Rattle.nets.proofs.Known.{zone-is, offers-small, limit-prices-small, lmp-small, zone-prices-small, nets-are}
+use Rattle.prices.proofs.Known.{case-ranges, prices-in-range, resource-below, zone-from-one, zone-in-case}
 use Rattle.prices.specs.ZonePrices.{zonePricesOf}
 use Rattle.market.specs.Records.{recordOf}
+use Rattle.limits.proofs.Fields.{state-is}
 use Rattle.market.specs.Certificate.{certificateOf}
 use Rattle.market.specs.CaseFile.{caseOf}
 use Prim.Native.Nat.{_-_}
@@ -21,10 +22,10 @@ zone-prices : (c : tie.After-zone-prices) →
 zone-prices c = c .zone-prices .ensures ∙ rw (zone (c .before .before .before .before .before .before .before .before))
 
 sub-zone : tie.Need-sub-zone
-sub-zone c = let s = c .before .before .before .before in rw (zone s) (zone-from-one (s .pre .0 .0) (s .args .i) (s .pre .0 .1))
+sub-zone c = let s = c .before .before .before .before in rw (zone s) (zone-from-one (s .pre .0 .0) (s .pre .0 .1))
 
 zone-prices-requires : tie.Need-zone-prices-requires
-zone-prices-requires c κs = let s = c .before .before .before .before .before .before .before in rw (zone s) (s .pre .0 .0, zone-in-case (s .pre .0 .0) (s .args .i) (s .pre .0 .1))
+zone-prices-requires c κs = let s = c .before .before .before .before .before .before .before in rw (zone s) (s .pre .0 .0, zone-in-case (s .pre .0 .0) (s .pre .0 .1))
 
 nets-of-requires : tie.Need-nets-of-requires
 unfolding recordOf
@@ -44,7 +45,7 @@ returns c =
     let i = s .args .i in
     let d = c .before in
     c .nets-of .ensures
-    ∙ rw (d .before .before .before .spinning .ensures (caseOf (s .args .b .now) .resource i) (s .pre .1 .0) (s .pre .1 .1), s .pre .1 .1, d .before .before .limit-prices-at .ensures, d .before .lmp .ensures, zone-prices d)
+    ∙ rw (d .before .before .before .spinning .ensures (caseOf (s .args .b .now) .resource i) (s .pre .1 .0) (state-is _ (s .pre .1 .1)), s .pre .1 .1, d .before .before .limit-prices-at .ensures, d .before .lmp .ensures, zone-prices d)
     (nets-are _ _ (case-ranges (s .pre .0 .0)) (prices-in-range (s .pre .0 .0)) i (resource-below (s .pre .0 .0) (s .pre .0 .1)))
 
 pub nets-for-spec : {M : Type 1} → statement M

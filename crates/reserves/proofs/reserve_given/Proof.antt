@@ -4,11 +4,13 @@ use lib.IntN.{pos}
 use Rattle.market.specs.CaseFile.{caseOf}
 use Rattle.market.specs.UpperBounds.{contingency}
 use Rattle.market.specs.Certificate.{certificateOf}
-use Rattle.market.specs.InWords.{isSpinning, kwOf, reserveOf}
+use Rattle.market.specs.Rows.{isSpinning}
+use Rattle.market.specs.InWords.{kwOf, reserveOf}
 use Rattle.market.specs.Records.{kw, recordOf, stateOf, amountsOf, curveAmountsOf}
 use Rattle.limits.proofs.Fields.{state-is}
+use Rattle.prices.proofs.Known.{amounts-small}
 use Rattle.reserves.specs.Given.{zonedAmountsOf}
-use Rattle.reserves.proofs.Known.{amounts-small, spin-small, given-is}
+use Rattle.reserves.proofs.Known.{spin-small, given-is}
 use borrow.Author.Needs.{needs}
 use Rattle.reserves.proofs.reserve_given.Statement.{statement}
 use Rattle.reserves.proofs.reserve_given.Tie as tie

@@ -12,7 +12,7 @@ use Rattle.reserves.specs.declared.ZonedAmounts.{ZonedAmounts}
 use Rattle.reserves.specs.Given.{zonedAmountsOf, marketTotal, zoneTotals}
 use Rattle.reserves.proofs.Known.{given-small}
 use Rattle.reserves.proofs.Sums.{sums-more, sums-room}
-use Rattle.reserves.proofs.Zones.{zone-from-one, zone-below, zone-room, zones-more}
+use Rattle.reserves.proofs.Zones.{zone-below, zone-room, zones-more, own-zone-from-one}
 use borrow.Author.Needs.{needs}
 use Rattle.reserves.proofs.totals.Statement.{statement}
 use Rattle.reserves.proofs.totals.Tie as tie
@@ -50,7 +50,7 @@ amounts-sum-requires c κs =
     (sums-room (λ k. reserveOf (caseOf (s .args .b .now)) (certificateOf (s .args .q .now) .amount) k) (s .args .r) (s .pre .prices .case-bytes .counts .most-resources) (given-small (s .pre)) (l .i) (omega arith))
 
 sub-zone : tie.Need-sub-zone Inv-loop μ-loop
-sub-zone c = zone-from-one (c .before .before .before .before .before .before .before .before .before .pre) (c .before .before .before .before .before .loop .i) _ (omega arith) (zone-is (c .before .before .before))
+sub-zone c = own-zone-from-one (c .before .before .before .before .before .before .before .before .before .pre) (c .before .before .before .before .before .loop .i) _ (omega arith) (zone-is (c .before .before .before))
 
 in-array : tie.Need-array-copy-out-amounts-sum Inv-loop μ-loop
 in-array c = zone-below (c .before .before .before .before .before .before .before .before .before .pre) (c .before .before .before .before .before .loop .i) _ (omega arith) (zone-is (c .before .before .before))

@@ -7,8 +7,7 @@ use borrow.Author.Needs.{needs}
 use Rattle.market.specs.CaseFile.{caseOf}
 use Rattle.market.specs.Certificate.{certificateOf}
 use Rattle.limits.specs.Together.{limitsOf}
-use Rattle.prices.proofs.Known.{case-ranges, prices-in-range, resource-below}
-use Rattle.reserves.proofs.Known.{amounts-small}
+use Rattle.prices.proofs.Known.{case-ranges, prices-in-range, resource-below, amounts-small}
 use Rattle.rows.proofs.Known.{resource-ranged}
 use Rattle.row_charges.proofs.FromRecords.{limit-charges}
 use Rattle.row_charges.proofs.Fit.{limit-room}

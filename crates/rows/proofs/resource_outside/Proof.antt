@@ -5,8 +5,7 @@ use Rattle.market.specs.CaseFile.{caseOf}
 use Rattle.market.specs.Rows.{Limited, limits}
 use Rattle.market.specs.Certificate.{certificateOf}
 use Rattle.market.specs.Outcome.{rowMet}
-use Rattle.prices.proofs.Known.{resource-below}
-use Rattle.reserves.proofs.Known.{amounts-small}
+use Rattle.prices.proofs.Known.{resource-below, amounts-small}
 use Rattle.limits.specs.Together.{limitsOf}
 use Rattle.rows.proofs.Known.{resource-ranged}
 use Rattle.rows.proofs.Search.{first-false}
