@@ -58,7 +58,7 @@ EDITS = [
     ("response_limit_dropped", "UpperBounds", "(min (r .economicMax) (min (r .offLineResponse) (SHARE c contingencyReserve)))", "(min (r .economicMax) (SHARE c contingencyReserve))"),
     ("second_off_line_limit", "UpperBounds", "(min (r .economicMax) (r .offLineShortTerm))", "(min (r .economicMax) (min (r .offLineShortTerm) (SHARE c shortTermReserve)))"),
     # rows
-    ("off_line_spins", "Rows", "spins r = cond (onLine r && spinningFlag (r .flags)) one none", "spins r = cond (spinningFlag (r .flags)) one none"),
+    ("off_line_spins", "Rows", "spins r = cond (isSpinning r) one none", "spins r = cond (spinningFlag (r .flags)) one none"),
     ("row_left_out", "Rows", "rows c = Balance ∷ (marketRows ++ (zoneRows c ++", "rows c = Balance ∷ (marketRows ++ ("),
     ("limit_left_out", "Rows", "limits = maxWithReserve ∷ maxWithShortTerm ∷ minimum ∷ high ∷ low ∷ []", "limits = maxWithReserve ∷ maxWithShortTerm ∷ minimum ∷ high ∷ []"),
     ("rows_swapped", "Rows", "limits = maxWithReserve ∷ maxWithShortTerm ∷ minimum ∷ high ∷ low ∷ []", "limits = maxWithReserve ∷ maxWithShortTerm ∷ high ∷ minimum ∷ low ∷ []"),
