@@ -26,7 +26,7 @@ use Rattle.nets.proofs.Known.{step-is}
 use Rattle.limits.specs.Together.{reserveBoundsOf}
 use Rattle.bounds.specs.Terms.{stepLeast, curveStepLeast}
 use Rattle.bounds.proofs.PricedTerms.{step-least-is, curve-step-least-is}
-use Rattle.costs.specs.Steps.{widthsOf}
+use Rattle.limits.specs.Widths.{widthsOf}
 use Rattle.costs.proofs.Filling.{filled-same}
 use Rattle.arith.proofs.Buffers.{store-on}
 use Rattle.charges.specs.Terms.{stepCharge, energyCharge, reserveCharges, curveStepCharge, curveCharge}

@@ -21,6 +21,7 @@ use Rattle.units.specs.Room.{SumRoom}
 use Rattle.bounds.specs.Sizes.{Figure}
 use Rattle.bounds.proofs.Figures.{product-room}
 use Rattle.costs.specs.Steps.{StepRanges, widthsOf}
+use Rattle.limits.specs.Widths.{widthsOf}
 use Rattle.costs.proofs.Filling.{offer-ranges, curve-ranges}
 use Rattle.charges.specs.Sizes.{ChargeRoom, StepRoom}
 

@@ -23,7 +23,7 @@ use Rattle.records.specs.Ranged.{offerStep, curveStep}
 use Rattle.nets.specs.declared.Nets.{Nets}
 use Rattle.limits.specs.declared.ReserveBounds.{ReserveBounds}
 use Rattle.bounds.specs.Terms.{leastOf, stepBound}
-use Rattle.costs.specs.Steps.{widthsOf}
+use Rattle.limits.specs.Widths.{widthsOf}
 use Rattle.charges.specs.declared.ClearedCurve.{ClearedCurve}
 
 -- ---- of the bytes

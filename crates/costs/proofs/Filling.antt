@@ -1,7 +1,7 @@
 -- Steps filled one after the other: from x kW on, what is left before step j is x less the widths before it, and what
 -- fills it is `filled w x j`. What the first steps are worth, and how large that can be.
 use mathlib.Core.Path.{_≡_, refl, ap, _∙_}
-use Prim.Native.Nat.{ℕ, zero, suc, _+_, _*_, _-_, _<_, _≤_, min}
+use Prim.Native.Nat.{ℕ, _+_, _*_, _-_, _<_, _≤_, min}
 use native.Mathlib.Nat.{mul-le-mul}
 use native.Mathlib.Omega.{arith}
 use lib.IntN.{ℤ, pos, natAbs, _-ℤ_, _*ℤ_}
@@ -20,9 +20,10 @@ use Rattle.market.proofs.Steps.{filled-below}
 use Rattle.market.specs.declared.OfferSteps.{OfferSteps}
 use Rattle.market.specs.declared.CurveSteps.{CurveSteps}
 use Rattle.records.specs.Ranged.{UpTo, RangedSteps, RangedCurve, offerStep, curveStep}
-use Rattle.limits.proofs.Widths.{width-more}
+use Rattle.limits.specs.Widths.{widthsOf}
+use Rattle.limits.proofs.Widths.{width-more, widths-same}
 use Rattle.units.specs.Room.{SumRoom, ProductRoom}
-use Rattle.costs.specs.Steps.{mostInSteps, fillingOf, widthsOf, stepWorth, stepsWorth, StepRanges}
+use Rattle.costs.specs.Steps.{mostInSteps, fillingOf, stepWorth, stepsWorth, StepRanges}
 
 -- ---- one step: of a kW that are left, into a step b wide
 module _ {a b : ℤ} {m n : ℕ} (left : UpTo a m) (width : UpTo b n) where
@@ -48,11 +49,6 @@ next-step w x j = λ i. record { part = power (min (w j) (x - widthOf w j)); lef
     after = omega (arith, width-more w j)
 
 -- ---- what they are worth
-widths-same : (w v : ℕ → ℕ) (n : ℕ) → ((j : ℕ) → j < n → w j ≡ v j) → widthOf w n ≡ widthOf v n
-unfolding widthOf
-widths-same w v zero h = refl
-widths-same w v (suc n) h = omega (arith, widths-same w v n (λ j l. h j (omega arith)), h n (omega arith))
-
 pub filled-same : (w v : ℕ → ℕ) (x n : ℕ) → ((j : ℕ) → j < n → w j ≡ v j) → (j : ℕ) → j < n → filled w x j ≡ filled v x j
 unfolding filled
 filled-same w v x n h j l = rw (h j l, widths-same w v j (λ k m. h k (omega arith)))

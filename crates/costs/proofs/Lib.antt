@@ -1,3 +1,4 @@
 pub mod Filling
+pub mod FillingLoop
 pub mod Totals
 pub mod Known

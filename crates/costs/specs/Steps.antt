@@ -6,6 +6,7 @@ use Rattle.market.specs.Cost.{filled}
 use Rattle.market.specs.Records.{power}
 use Rattle.market.specs.declared.Step.{Step}
 use Rattle.records.specs.Ranged.{UpTo}
+use Rattle.limits.specs.Widths.{widthsOf}
 use Rattle.costs.specs.declared.Filled.{Filled}
 
 -- the most that the steps of an offer or of a curve hold together, in kW
@@ -15,10 +16,6 @@ mostInSteps = 32000000
 -- of x kW that are left, what fills a step w wide, and what is left after it
 unfoldable pub fillingOf : ℕ → ℕ → Filled
 fillingOf x w = record { part = power (min w x); left = power (x - w) }
-
--- the widths of steps that stand in an array
-abbrev pub widthsOf : (ℕ → Step) → ℕ → ℕ
-widthsOf steps j = natAbs (steps j .width .0)
 
 -- what fills step j, at the step's price
 unfoldable pub stepWorth : (ℕ → Step) → ℕ → ℕ → ℤ

@@ -1,3 +1,4 @@
 pub mod OnLine
 pub mod OffLine
 pub mod Together
+pub mod Widths

@@ -1,25 +1,18 @@
 -- `costs::curve_value` meets its contract.
 -- The loop's invariant: what is left is the cleared quantity less the widths passed, the value what the steps passed are worth; the measure is the steps to go.
-use mathlib.Core.Path.{_≡_, refl, ap, _∙_}
-use Prim.Native.Nat.{_+_, _-_, _≤_}
+use Prim.Native.Nat.{_-_}
 use native.Mathlib.Omega.{arith}
 use lib.IntN.{natAbs}
 use borrow.Author.Needs.{needs}
-use Rattle.arith.specs.Sums.{sumOf, upto}
-use Rattle.arith.proofs.Sums.{sum-upto}
-use Rattle.market.specs.Cost.{filled}
-use Rattle.market.specs.Records.{power}
-use Rattle.market.specs.Case.{widthOf}
 use Rattle.records.specs.Ranged.{curveStep}
-use Rattle.costs.specs.Steps.{StepRanges, widthsOf, stepWorth, stepsWorth}
-use Rattle.costs.specs.declared.Filled.{Filled}
-use Rattle.costs.specs.Worth.{thousands}
-use Rattle.costs.proofs.Filling.{before-steps, next-step, left-room, width-room, step-room, steps-room, curve-ranges}
+use Rattle.costs.specs.Steps.{StepRanges}
+use Rattle.costs.proofs.Filling.{curve-ranges}
+use Rattle.costs.proofs.FillingLoop.{StepsFilled, none-filled, fill-room, part-room, worth-room, one-filled, all-filled}
 use Rattle.costs.proofs.curve_value.Statement.{statement}
 use Rattle.costs.proofs.curve_value.Tie as tie
 
 abbrev Inv-loop : tie.InvT-loop
-Inv-loop curve value₀ left₀ j₀ value left j = (j ≤ 4) × (left ≡ power (natAbs (left₀ .0) - widthOf (widthsOf (curveStep curve)) j)) × (value ≡ thousands (stepsWorth (curveStep curve) (natAbs (left₀ .0)) j))
+Inv-loop curve value₀ left₀ j₀ value left j = StepsFilled (curveStep curve) (natAbs (left₀ .0)) 4 j left value
 
 abbrev μ-loop : tie.MeasureT-loop
 μ-loop curve value₀ left₀ j₀ value left j = 4 - j
@@ -28,46 +21,38 @@ abbrev μ-loop : tie.MeasureT-loop
 ranges : (c : tie.Start Inv-loop μ-loop) → StepRanges (curveStep (c .args .t1)) 4 8000000
 ranges c = curve-ranges (c .pre .0)
 
--- step j is filled out of what is left, and priced
-filled-now : (c : tie.After-fill Inv-loop μ-loop) →
-    let s = c .before .before .before .before in
-    let w = widthsOf (curveStep (s .args .t1)) in
-    let j = c .before .before .before .loop .j in
-    c .fill .result ≡ (record { part = power (filled w (natAbs (s .args .cleared .0)) j); left = power (natAbs (s .args .cleared .0) - widthOf w (j + 1)) })
-filled-now c =
-    let s = c .before .before .before .before in
-    c .fill .ensures ∙ rw (c .before .before .before .loop .inv .1) (next-step (widthsOf (curveStep (s .args .t1))) (natAbs (s .args .cleared .0)) (c .before .before .before .loop .j))
-
-worth-now : (c : tie.After-worth Inv-loop μ-loop) →
-    let s = c .before .before .before .before .before in
-    c .worth .result ≡ thousands (stepWorth (curveStep (s .args .t1)) (natAbs (s .args .cleared .0)) (c .before .before .before .before .loop .j))
-unfolding stepWorth
-worth-now c = c .worth .ensures ∙ rw (filled-now (c .before))
-
 loop-holds : tie.Need-loop-holds Inv-loop μ-loop
-unfolding sumOf upto
-loop-holds c = (omega arith, before-steps (widthsOf (curveStep (c .args .t1))) (c .pre .1), refl)
+loop-holds c = none-filled (curveStep (c .args .t1)) 4 (c .pre .1)
 
 fill-requires : tie.Need-fill-requires Inv-loop μ-loop
-fill-requires c κs = let s = c .before .before .before in let j = c .before .before .loop .j in
-    let x = natAbs (s .args .cleared .0) in
-    rw (c .before .before .loop .inv .1) (left-room (ranges s) (omega arith) (omega arith) x j (omega (arith, s .pre .1 .at-most)), width-room (ranges s) (omega arith) (omega arith) x j (omega arith))
+fill-requires c κs =
+    let s = c .before .before .before in
+    let k = c .before .before .loop in
+    fill-room (ranges s) (omega arith) (omega arith) (natAbs (s .args .cleared .0)) (k .j) (k .inv .0) (omega arith) (omega (arith, s .pre .1 .at-most))
 
 worth-requires : tie.Need-worth-requires Inv-loop μ-loop
-worth-requires c κs = let s = c .before .before .before .before in rw (filled-now c) (step-room (ranges s) (omega arith) (omega arith) (natAbs (s .args .cleared .0)) (c .before .before .before .loop .j) (omega arith))
+worth-requires c κs =
+    let s = c .before .before .before .before in
+    let k = c .before .before .before .loop in
+    part-room (ranges s) (omega arith) (omega arith) (natAbs (s .args .cleared .0)) (k .j) (k .inv .0) (omega arith) (c .fill .ensures)
 
 sum-requires : tie.Need-sum-requires Inv-loop μ-loop
-sum-requires c κs = let s = c .before .before .before .before .before in rw (c .before .before .before .before .loop .inv .2, worth-now c) (steps-room (ranges s) (omega arith) (omega arith) (natAbs (s .args .cleared .0)) (c .before .before .before .before .loop .j) (omega arith))
+sum-requires c κs =
+    let s = c .before .before .before .before .before in
+    let k = c .before .before .before .before .loop in
+    worth-room (ranges s) (omega arith) (omega arith) (natAbs (s .args .cleared .0)) (k .j) (k .inv .0) (omega arith) (c .before .fill .ensures) (c .worth .ensures) (k .inv .1)
 
 loop-again : tie.Need-loop-again Inv-loop μ-loop
-loop-again c = (
-  omega arith,
-  ap (λ (a : Filled). a .left) (filled-now (c .before .before .before)),
-  c .before .sum .ensures ∙ rw (worth-now (c .before .before), c .before .before .before .before .before .before .loop .inv .2, sum-upto),
-)
+loop-again c =
+    let s = c .before .before .before .before .before .before .before in
+    let k = c .before .before .before .before .before .before .loop in
+    one-filled (ranges s) (omega arith) (omega arith) (natAbs (s .args .cleared .0)) (k .j) (k .inv .0) (omega arith) (c .before .before .before .fill .ensures) (c .before .before .worth .ensures) (k .inv .1) (c .before .sum .ensures)
 
 returns : tie.Need-returns Inv-loop μ-loop
-returns c = let e : c .before .loop .j ≡ 4 = omega arith in rw (← e) (c .before .loop .inv .2)
+returns c =
+    let s = c .before .before in
+    let k = c .before .loop in
+    all-filled (curveStep (s .args .t1)) (natAbs (s .args .cleared .0)) 4 (k .j) (k .inv) (omega arith)
 
 pub curve-value-spec : {M : Type 1} → statement M
 curve-value-spec =
