@@ -1,10 +1,10 @@
 -- The grounds of reading but 15: a certificate's by the tests of the code, and what a file past them is.
 use mathlib.Core.Path.{_≡_, refl, sym, _∙_, ap, subst}
-use mathlib.Core.Bool.{Bool, true, false}
+use mathlib.Core.Bool.{true, false}
 use mathlib.Core.List.{List}
 use Prim.Native.Nat.{ℕ, _≤_}
 use native.Mathlib.Omega.{arith}
-use lib.Dec.{T, eqb, eqb→eq}
+use lib.Dec.{eqb}
 use lib.ListN.{length}
 use Rattle.market.specs.declared.Refusal.the-variants as R
 use Rattle.market.specs.declared.Counts.{Counts}
@@ -15,11 +15,13 @@ use Rattle.market.specs.Certificate.{leastCertificateSize, certificateSize}
 use Rattle.market.specs.Records.{countsIn}
 use Rattle.market.specs.Refusals.{clear, firstOf}
 use Rattle.market.specs.Numbers.{certificateFileGrounds}
-use Rattle.market.proofs.Grounds.{none-holds, unless-clear}
+use Rattle.market.proofs.Grounds.{none-holds}
+use Rattle.market.proofs.Ranges.{counts-most}
+use Rattle.market.proofs.RoundTrips.{certificate-right}
 use Rattle.market.proofs.FileSizes.{case-fills, certificate-fills}
 use Rattle.cases.specs.declared.Stage.the-variants.{Passed, Refused}
 use Rattle.cases.specs.Stages.{stageOf}
-use Rattle.cases.proofs.Passing.{counts-from, passed-bytes}
+use Rattle.cases.proofs.Passing.{passed-bytes}
 use Rattle.filings.specs.Form.{sizeIs}
 use Rattle.fields.specs.declared.File.{File}
 use Rattle.fields.specs.declared.File.the-variants.{Case, Certificate}
@@ -62,12 +64,8 @@ module _ (q : List ℕ) where
     by-none h k l m = rw (h, k, sym counts-are ∙ l, sym size-is ∙ m, e ∙ counts-same q)
 
 -- ---- a file past them
-is-true : (t : Bool) → T t → t ≡ true
-is-true true h = refl
-is-true false h = absurd h
-
 past : (file : File) (b : List ℕ) → firstOf (groundsOf file b) ≡ clear → FileBytes file b (u8At b 5) (u8At b 6) (u8At b 7)
-unfolding caseOf certificateFileGrounds
+unfolding caseOf
 past Case b h =
     let c = passed-bytes b (countsIn (caseOf b)) (ap (stageOf (countsIn (caseOf b))) h) in
     record {
@@ -78,16 +76,14 @@ past Case b h =
       filled = c .size ∙ sym (case-fills (u8At b 5) (u8At b 6) (u8At b 7));
     }
 past Certificate b h =
-    let clear = none-holds (certificateFileGrounds b) h in
-    let counts = countsRight (u8At b 5) (u8At b 6) (u8At b 7) in
-    let most = counts-from (u8At b 5) (u8At b 6) (u8At b 7) (is-true counts (unless-clear counts R.Counts (clear .1 .1 .0))) in
-    let size = unless-clear (eqb (length b) (certificateSize (u8At b 5) (u8At b 6) (u8At b 7))) R.CertificateSize (clear .1 .1 .1 .0) in
+    let right = certificate-right b (none-holds (certificateFileGrounds b) h) in
+    let most = counts-most (u8At b 5) (u8At b 6) (u8At b 7) (right .counts) in
     record {
       resources = refl;
       zones = refl;
       flowgates = refl;
       counts = most;
-      filled = eqb→eq (length b) (certificateSize (u8At b 5) (u8At b 6) (u8At b 7)) size ∙ sym (certificate-fills (u8At b 5) (u8At b 6) (u8At b 7));
+      filled = right .filled;
     }
 
 -- it has a head

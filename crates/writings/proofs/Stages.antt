@@ -2,10 +2,10 @@
 -- its case file are 5, 6 and 7.
 use mathlib.Core.Path.{_≡_, refl, sym, _∙_, ap, subst}
 use mathlib.Core.Bool.{true, false, _&&_}
-use mathlib.Core.List.{List, [], _∷_, _++_}
+use mathlib.Core.List.{List}
 use Prim.Native.Nat.{ℕ, _<_, _≤_}
 use native.Mathlib.Omega.{arith}
-use lib.Dec.{T, leb, leb→le}
+use lib.Dec.{T, leb→le}
 use lib.IntN.{ℤ, pos, negsuc, natAbs}
 use lib.ListN.{length, getD}
 use lib.Signed.{leZ}
@@ -18,10 +18,11 @@ use Rattle.market.specs.Bytes.{withinℤ}
 use Rattle.market.specs.CaseFile.{caseOf}
 use Rattle.market.specs.CaseCheck.{mostResources, mostZones, mostFlowgates}
 use Rattle.market.specs.Records.{countsIn}
-use Rattle.market.specs.Refusals.{Finding, clear, holds, firstOf}
+use Rattle.market.specs.Refusals.{clear, firstOf}
 use Rattle.market.specs.Outcome.{caseGrounds}
 use Rattle.market.specs.Numbers.{fieldAt, numbersAt, numbersFit, caseFields, numbersOf, caseNumbers, countIn, countsInRange, fieldsFor, caseFile, listGrounds}
-use Rattle.market.proofs.Grounds.{none-holds, unless-clear}
+use Rattle.market.proofs.Grounds.{none-holds, first-later, first-earlier, earlier-clear}
+use Rattle.market.proofs.Passed.{list-passed as tests-passed}
 use Rattle.market.proofs.RoundTrips.{case-filed}
 use Rattle.market.specs.declared.Refusal.the-variants as R
 use Rattle.cases.specs.declared.Stage.the-variants.{Passed, Refused}
@@ -90,38 +91,18 @@ module _ (file : File) (vs : List ℤ) where
 
 -- ---- a list past them
 listed : (file : File) (vs : List ℤ) → firstOf (listGrounds (fieldsOf file) vs) ≡ clear → Listed file vs (countIn vs 0) (countIn vs 1) (countIn vs 2)
-unfolding listGrounds fieldsFor
+unfolding fieldsFor
 listed file vs h =
-    let clear = none-holds (listGrounds (fieldsOf file) vs) h in
-    let most = counts-from vs (is-true (countsInRange vs) (unless-clear (countsInRange vs) R.Counts (clear .1 .0))) in
-    let fits = numbersFit (fieldsFor (fieldsOf file) vs) vs in
+    let passed = tests-passed (fieldsOf file) vs (none-holds (listGrounds (fieldsOf file) vs) h) in
+    let most = counts-from vs (is-true (countsInRange vs) (passed .counts-in-range)) in
     record {
       resources = refl;
       zones = refl;
       flowgates = refl;
       counts = record { most-resources = most .0 .1; most-zones = most .1 .1; most-flowgates = most .2 .1 };
-      fit = is-true fits (unless-clear fits R.NumberList (clear .1 .1 .0));
+      fit = is-true (numbersFit (fieldsFor (fieldsOf file) vs) vs) (passed .numbers-fit);
       none-holds = h;
     }
-
--- ---- two lists of grounds, one behind the other
-first-later : (gs hs : List Finding) → firstOf gs ≡ clear → firstOf (gs ++ hs) ≡ firstOf hs
-unfolding firstOf
-first-later [] hs h = refl
-first-later (clear ∷ gs) hs h = first-later gs hs h
-first-later (holds r ∷ gs) hs h = absurd (let z : _≡_ {A = ℕ} 0 1 = cc in omega arith)
-
-first-earlier : (gs hs : List Finding) (r : Refusal) → firstOf gs ≡ holds r → firstOf (gs ++ hs) ≡ holds r
-unfolding firstOf
-first-earlier [] hs r h = absurd (let z : _≡_ {A = ℕ} 0 1 = cc in omega arith)
-first-earlier (clear ∷ gs) hs r h = first-earlier gs hs r h
-first-earlier (holds s ∷ gs) hs r h = h
-
-earlier-clear : (gs hs : List Finding) → firstOf (gs ++ hs) ≡ clear → firstOf gs ≡ clear
-unfolding firstOf
-earlier-clear [] hs h = refl
-earlier-clear (clear ∷ gs) hs h = earlier-clear gs hs h
-earlier-clear (holds s ∷ gs) hs h = h
 
 -- ---- what the stages' answers tell
 module _ (file : File) (vs : List ℤ) where
@@ -138,10 +119,9 @@ module _ (file : File) (vs : List ℤ) where
   passed n h e = subst (λ (m : Counts). Listed file vs (m .resources) (m .zones) (m .flowgates)) (sym e) (listed file vs (earlier-clear (listGrounds (fieldsOf file) vs) _ h))
 
   pub has-counts : firstOf (groundsOf file vs) ≡ clear → (3 ≤ length vs) × (countsInRange vs ≡ true)
-  unfolding listGrounds
   has-counts h =
-      let clear = none-holds (listGrounds (fieldsOf file) vs) (earlier-clear (listGrounds (fieldsOf file) vs) _ h) in
-      (leb→le 3 (length vs) (unless-clear (leb 3 (length vs)) R.NumberList (clear .0)), is-true (countsInRange vs) (unless-clear (countsInRange vs) R.Counts (clear .1 .0)))
+      let passed = tests-passed (fieldsOf file) vs (none-holds (listGrounds (fieldsOf file) vs) (earlier-clear (listGrounds (fieldsOf file) vs) _ h)) in
+      (leb→le 3 (length vs) (passed .three-numbers), is-true (countsInRange vs) (passed .counts-in-range))
 
 -- ---- the case file of a list past 16, 3, 16
 -- its counts are the list's first three numbers
