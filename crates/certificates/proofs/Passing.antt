@@ -3,7 +3,6 @@
 use mathlib.Core.Path.{_≡_, refl, sym, _∙_, ap, subst}
 use mathlib.Core.List.{List, [], _∷_, _++_, append-assoc}
 use Prim.Native.Nat.{ℕ}
-use native.Mathlib.Omega.{arith}
 use Rattle.arith.specs.Sums.{all}
 use Rattle.arith.proofs.Lists.{each-split}
 use Rattle.market.specs.declared.Refusal.{Refusal}
@@ -15,7 +14,7 @@ use Rattle.market.specs.Records.{countsIn}
 use Rattle.market.specs.Rows.{rows}
 use Rattle.market.specs.Refusals.{Finding, clear, holds, firstOf, firstFailing, AllClear}
 use Rattle.market.specs.Outcome.{Valid, caseGrounds, certificateGrounds, grounds, priceRight, rowMet}
-use Rattle.market.proofs.Grounds.{none-holds, unless-clear}
+use Rattle.market.proofs.Grounds.{none-holds, unless-clear, first-of-append, first-of-one}
 use Rattle.market.proofs.FirstFailing.{orElse}
 use Rattle.market.proofs.Ranges.{valid-ranges, bounded}
 use Rattle.cases.specs.declared.Stage.{Stage}
@@ -31,23 +30,12 @@ use Rattle.certificates.specs.Grounds13.{priceGround, boundGround, groun
 use Rattle.certificates.specs.Filing.{Filing, FiledWith, Filed, Advanced, afterwards}
 
 -- ---- stages and findings
-first-of-append : (gs hs : List Finding) → firstOf (gs ++ hs) ≡ orElse (firstOf gs) (firstOf hs)
-unfolding firstOf
-first-of-append [] hs = refl
-first-of-append (clear ∷ gs) hs = first-of-append gs hs
-first-of-append (holds r ∷ gs) hs = refl
-
 -- one ground more, of the stage's answer and of the list
 one-more : (n : Counts) (f g : Finding) → afterwards (stageOf n f) g ≡ stageOf n (orElse f g)
 unfolding afterwards
 one-more n clear clear = refl
 one-more n clear (holds r) = refl
 one-more n (holds r) g = refl
-
-first-of-one : (g : Finding) → firstOf (g ∷ []) ≡ g
-unfolding firstOf
-first-of-one clear = refl
-first-of-one (holds r) = refl
 
 after-list : (n : Counts) (gs : List Finding) (g : Finding) → afterwards (stageOf n (firstOf gs)) g ≡ stageOf n (firstOf (gs ++ (g ∷ [])))
 after-list n gs g = one-more n (firstOf gs) g ∙ rw (first-of-append gs (g ∷ []), first-of-one g)
@@ -129,18 +117,23 @@ standing b q h =
     let c = caseOf b in
     let k = certificateOf q in
     let parts = each-split (λ g. g ≡ clear) (caseGrounds b) (groundsFrom8 c q k) (none-holds (groundsTo13 b q) h) in
-    let t = parts .1 in
-    let known = filing b q (parts .0) (t .0, (t .1 .0, (t .1 .1 .0, (t .1 .1 .1 .0, tt)))) in
-    record {
-      prices =
-          record {
-            case-bytes = known .case-bytes;
-            certificate-bytes = known .certificate-bytes;
-            valid = parts .0;
-            in-range = unless-clear (all (priceRight k) (rows c)) R.PriceRange (t .1 .1 .1 .1 .0);
-          };
-      bounded = bounded c k (t .1 .1 .1 .1 .1 .0);
-    }
+    named (parts .0) (each-split (λ g. g ≡ clear) (formGrounds c q) (priceGround c k ∷ boundGround c k ∷ []) (parts .1))
+  where
+    named : Valid b → AllClear (formGrounds (caseOf b) q) × AllClear (priceGround (caseOf b) (certificateOf q) ∷ boundGround (caseOf b) (certificateOf q) ∷ []) → Standing b q (caseOf b .resources) (caseOf b .zones) (caseOf b .flowgates)
+    named valid (form, (prices, (amounts, none))) =
+        let c = caseOf b in
+        let k = certificateOf q in
+        let known = filing b q valid form in
+        record {
+          prices =
+              record {
+                case-bytes = known .case-bytes;
+                certificate-bytes = known .certificate-bytes;
+                valid = valid;
+                in-range = unless-clear (all (priceRight k) (rows c)) R.PriceRange prices;
+              };
+          bounded = bounded c k amounts;
+        }
 
 -- of the stage's answer
 module _ (b q : List ℕ) (n : Counts) (h : stageOf (countsIn (caseOf b)) (firstOf (groundsTo13 b q)) ≡ Passed n) where
