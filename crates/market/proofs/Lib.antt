@@ -1,4 +1,5 @@
 pub mod Computed
+pub mod CurveNumbers
 pub mod Grounds
 pub mod Passed
 pub mod LentBuffer

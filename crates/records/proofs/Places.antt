@@ -1,22 +1,14 @@
 -- In the bytes of a case every record is there; a valid case's bytes are such, with its counts.
-use mathlib.Core.Path.{_≡_, refl}
+use mathlib.Core.Path.{_≡_}
 use mathlib.Core.List.{List}
-use Prim.Native.Nat.{ℕ, zero, suc, _+_, _*_, _<_}
+use Prim.Native.Nat.{ℕ, _+_, _*_, _<_}
 use native.Mathlib.Omega.{arith}
 use native.Mathlib.Nat.{mul-le-mul-right}
 use Rattle.market.specs.Bytes.{u8At}
-use Rattle.market.specs.Case.{curveNumber, curveNumbered}
-use Rattle.market.specs.CaseFile.{caseOf}
+use Rattle.market.specs.CaseFile.{caseOf, flowgateSize}
 use Rattle.market.specs.Outcome.{Valid}
 use Rattle.wire.proofs.WholeCase.{valid-case}
 use Rattle.records.specs.Places.{CaseBytes, HeadIn, CurveIn, ZoneIn, ResourceIn, FlowgateIn, FactorIn}
-
-pub number-is : (k : ℕ) → k < 4 → curveNumber (curveNumbered k) ≡ k
-number-is zero h = refl
-number-is (suc zero) h = refl
-number-is (suc (suc zero)) h = refl
-number-is (suc (suc (suc zero))) h = refl
-number-is (suc (suc (suc (suc k)))) h = absurd (omega arith)
 
 module _ {b : List ℕ} {r z f : ℕ} (whole : CaseBytes b r z f) where
   pub head-in : HeadIn b
@@ -32,7 +24,7 @@ module _ {b : List ℕ} {r z f : ℕ} (whole : CaseBytes b r z f) where
   resource-in i h = (whole .zones, omega arith)
 
   pub flowgate-in : (g : ℕ) → g < f → FlowgateIn b r z g
-  flowgate-in g h = record { resources = whole .resources; zones = whole .zones; within = omega (arith, mul-le-mul-right (4 + r * 2) h) }
+  flowgate-in g h = record { resources = whole .resources; zones = whole .zones; within = omega (arith, mul-le-mul-right (flowgateSize r) h) }
 
   pub factor-in : (g i : ℕ) → g < f → i < r → FactorIn b r z g i
   factor-in g i h k = record { flowgate = flowgate-in g h; counted = k }

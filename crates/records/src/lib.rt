@@ -2,10 +2,11 @@
 // Each function asks that the bytes it reads are there (specs/Places.antt), and equates its result with the definitions.
 ghost use mathlib.Core.Path.{_≡_};
 ghost use Prim.Native.Nat.{_<_, _≤_};
+ghost use lib.ListN.{length};
 ghost use Rattle.wire.specs.Within.{Within};
 ghost use Rattle.market.specs.Bytes.{u8At};
-ghost use Rattle.market.specs.Case.{curveNumbered, Reserve, contingencyReserve, regulatingReserve, shortTermReserve};
-ghost use Rattle.market.specs.CaseFile.{pairPlace, shareOrder, resourceAt, caseOf};
+ghost use Rattle.market.specs.Case.{curves, curveNumbered, curveSteps, energySteps, Reserve, contingencyReserve, regulatingReserve, shortTermReserve};
+ghost use Rattle.market.specs.CaseFile.{resourceSize, pairPlace, shareOrder, resourceAt, caseOf};
 ghost use Rattle.market.specs.Records.{kw, shiftFactor, power, minutes, offerStepOf, offerStepsOf, stateOf, outputLimitsOf, rampsOf, startsOf, reserveOffersOf, recordOf, reserveTermsOf, termsOf, curveStepOf, curveStepsOf, zoneRequirementsOf};
 ghost use Rattle.records.specs.Places.{HeadIn, CurveIn, ZoneIn, ResourceIn, FlowgateIn, FactorIn};
 use market::CurveSteps;
@@ -38,7 +39,7 @@ fn trip_at(b: &[u8], at: usize) -> Minutes
 
 // The status is read last: masked between the others, it makes the call for charges 2 in 100 slower.
 fn state_at(b: &[u8], at: usize) -> State
-    requires { ⌜ Within (now b) at 154 ⌝ }
+    requires { ⌜ Within (now b) at resourceSize ⌝ }
     ensures { λ r. ⌜ r ≡ stateOf (resourceAt (now (b .entry)) at) ⌝ }
 {
     State {
@@ -53,7 +54,7 @@ fn state_at(b: &[u8], at: usize) -> State
 }
 
 fn limits_at(b: &[u8], at: usize) -> OutputLimits
-    requires { ⌜ Within (now b) at 154 ⌝ }
+    requires { ⌜ Within (now b) at resourceSize ⌝ }
     ensures { λ r. ⌜ r ≡ outputLimitsOf (resourceAt (now (b .entry)) at) ⌝ }
 {
     OutputLimits {
@@ -67,7 +68,7 @@ fn limits_at(b: &[u8], at: usize) -> OutputLimits
 }
 
 fn ramps_at(b: &[u8], at: usize) -> Ramps
-    requires { ⌜ Within (now b) at 154 ⌝ }
+    requires { ⌜ Within (now b) at resourceSize ⌝ }
     ensures { λ r. ⌜ r ≡ rampsOf (resourceAt (now (b .entry)) at) ⌝ }
 {
     Ramps {
@@ -78,7 +79,7 @@ fn ramps_at(b: &[u8], at: usize) -> Ramps
 }
 
 fn starts_at(b: &[u8], at: usize) -> Starts
-    requires { ⌜ Within (now b) at 154 ⌝ }
+    requires { ⌜ Within (now b) at resourceSize ⌝ }
     ensures { λ r. ⌜ r ≡ startsOf (resourceAt (now (b .entry)) at) ⌝ }
 {
     Starts {
@@ -90,7 +91,7 @@ fn starts_at(b: &[u8], at: usize) -> Starts
 }
 
 fn reserve_offers_at(b: &[u8], at: usize) -> ReserveOffers
-    requires { ⌜ Within (now b) at 154 ⌝ }
+    requires { ⌜ Within (now b) at resourceSize ⌝ }
     ensures { λ r. ⌜ r ≡ reserveOffersOf (resourceAt (now (b .entry)) at) ⌝ }
 {
     ReserveOffers {
@@ -101,7 +102,7 @@ fn reserve_offers_at(b: &[u8], at: usize) -> ReserveOffers
 }
 
 fn offer_step_at(b: &[u8], at: usize, j: usize) -> Step
-    requires { ⌜ Within (now b) at 154 × (j < 10) ⌝ }
+    requires { ⌜ Within (now b) at resourceSize × (j < energySteps) ⌝ }
     ensures { λ r. ⌜ r ≡ offerStepOf (resourceAt (now (b .entry)) at) j ⌝ }
 {
     Step {
@@ -111,7 +112,7 @@ fn offer_step_at(b: &[u8], at: usize, j: usize) -> Step
 }
 
 fn offer_steps_at(b: &[u8], at: usize) -> OfferSteps
-    requires { ⌜ Within (now b) at 154 ⌝ }
+    requires { ⌜ Within (now b) at resourceSize ⌝ }
     ensures { λ r. ⌜ r ≡ offerStepsOf (resourceAt (now (b .entry)) at) ⌝ }
 {
     OfferSteps {
@@ -131,7 +132,7 @@ fn offer_steps_at(b: &[u8], at: usize) -> OfferSteps
 }
 
 fn resource_from(b: &[u8], at: usize) -> Resource
-    requires { ⌜ Within (now b) at 154 ⌝ }
+    requires { ⌜ Within (now b) at resourceSize ⌝ }
     ensures { λ r. ⌜ r ≡ recordOf (resourceAt (now (b .entry)) at) ⌝ }
 {
     Resource {
@@ -163,7 +164,7 @@ pub fn offer_steps(b: &[u8], zones: usize, i: usize) -> OfferSteps
 
 // Of a zone, for the curve of number k.
 fn requirement_at(b: &[u8], z: usize, k: usize) -> Kw
-    requires { ⌜ ZoneIn (now b) z × (k < 4) ⌝ }
+    requires { ⌜ ZoneIn (now b) z × (k < length curves) ⌝ }
     ensures { λ r. ⌜ r ≡ power (caseOf (now (b .entry)) .zoneRequirement z (curveNumbered k)) ⌝ }
 {
     wire::kw_at(b, 170 + z * 16 + k * 4)
@@ -238,7 +239,7 @@ pub fn terms(b: &[u8]) -> Terms
 }
 
 fn curve_step_at(b: &[u8], k: usize, j: usize) -> Step
-    requires { ⌜ CurveIn (now b) k × (j < 4) ⌝ }
+    requires { ⌜ CurveIn (now b) k × (j < curveSteps) ⌝ }
     ensures { λ r. ⌜ r ≡ curveStepOf (caseOf (now (b .entry))) (curveNumbered k) j ⌝ }
 {
     Step {

@@ -2,7 +2,7 @@
 use borrow.Author.Needs.{needs}
 use Rattle.market.specs.CaseFile.{caseOf}
 use Rattle.market.specs.Records.{curveStepOf}
-use Rattle.records.proofs.Places.{number-is}
+use Rattle.market.proofs.CurveNumbers.{number-is}
 use Rattle.records.proofs.curve_step_at.Statement.{statement}
 use Rattle.records.proofs.curve_step_at.Tie as tie
 

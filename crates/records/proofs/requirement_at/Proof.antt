@@ -1,7 +1,7 @@
 -- `records::requirement_at` meets its contract: of the curve that has the number. Assumes nothing.
 use borrow.Author.Needs.{needs}
 use Rattle.market.specs.CaseFile.{caseOf}
-use Rattle.records.proofs.Places.{number-is}
+use Rattle.market.proofs.CurveNumbers.{number-is}
 use Rattle.records.proofs.requirement_at.Statement.{statement}
 use Rattle.records.proofs.requirement_at.Tie as tie
 
