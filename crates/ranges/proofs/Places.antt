@@ -1,5 +1,5 @@
--- Fields that stand one after the other in a resource's record, and where a flowgate's bytes end.
-use mathlib.Core.Path.{_≡_, sym, _∙_}
+-- Fields that stand one after the other in a resource's record, where a flowgate's bytes end, and whose figures stand at a place.
+use mathlib.Core.Path.{_≡_, refl, sym, _∙_}
 use mathlib.Core.Bool.{Bool, true, _&&_}
 use mathlib.Core.List.{List, [], _∷_}
 use Prim.Native.Nat.{ℕ, _+_, _*_, _≤_, _<_}
@@ -8,12 +8,12 @@ use native.Mathlib.Nat.{mul-le-mul}
 use lib.ListN.{length}
 use Rattle.arith.specs.Sums.{upto, all}
 use Rattle.arith.proofs.AllTests.{all-append}
-use Rattle.market.specs.Bytes.{u32At, within}
-use Rattle.market.specs.Case.{Resource, reserves}
-use Rattle.market.specs.CaseFile.{resourceAt, flowgatePlace, caseOf}
-use Rattle.market.specs.CaseCheck.{powers, ramps, reservePrices, reserveInRange, flowgateInRange, fieldsInRange}
+use Rattle.market.specs.Bytes.{u32At, within, u8At}
+use Rattle.market.specs.Case.{Resource, reserves, curves}
+use Rattle.market.specs.CaseFile.{resourceAt, flowgatePlace, caseOf, flowgateSize, zonePlace, resourcePlace, caseSize}
+use Rattle.market.specs.CaseCheck.{powers, ramps, reservePrices, reserveInRange, flowgateInRange, fieldsInRange, resourceInRange}
 use Rattle.wire.specs.CaseBytes.{CaseBytes}
-use Rattle.ranges.specs.Pieces.{numberAtMost, curveInRange, zoneInRange, resourceInRangeAt, flowgateInRangeAt}
+use Rattle.ranges.specs.Pieces.{numberAtMost, curveInRange, zoneInRange, resourceNumberedInRange, flowgateInRangeAt}
 
 -- the first six powers, and the other four
 limitsOf : Resource → List ℕ
@@ -69,13 +69,28 @@ module _ (b : List ℕ) (p most : ℕ) where
       λ i. small (e₀ i) && (small (e₁ i) && (small (e₂ i) && true))
 
 -- the f-th of n flowgates ends within the file
-pub flowgate-within : {b : List ℕ} {r z n : ℕ} → CaseBytes b r z n → (f : ℕ) → f < n → flowgatePlace r z f + 4 + r * 2 ≤ length b
+pub flowgate-within : {b : List ℕ} {r z n : ℕ} → CaseBytes b r z n → (f : ℕ) → f < n → flowgatePlace r z f + flowgateSize r ≤ length b
 flowgate-within {b} {r} {z} {n} h f l =
-    let m : (f + 1) * (4 + r * 2) ≤ n * (4 + r * 2) = mul-le-mul {n₁ = f + 1} {n₂ = n} (omega arith) (omega arith) in
-    let s : length b ≡ 170 + z * 16 + r * 154 + n * (4 + r * 2) = h .size in
+    let m : (f + 1) * flowgateSize r ≤ n * flowgateSize r = mul-le-mul {n₁ = f + 1} {n₂ = n} (omega arith) (omega arith) in
+    let s : length b ≡ caseSize r z n = h .size in
     omega arith
 
+-- four numbers one behind the other are a zone's requirements
+pub zone-run : (b : List ℕ) (z : ℕ) → all (numberAtMost 2000000 b (zonePlace z)) (upto 4) ≡ zoneInRange (caseOf b) z
+unfolding caseOf all upto
+zone-run b z = refl
+
+-- what stands at resource i's place is the case's resource
+pub resource-here : (b : List ℕ) {z : ℕ} → z ≡ u8At b 6 → (i : ℕ) → resourceInRange z (resourceAt b (resourcePlace z i)) ≡ resourceNumberedInRange (caseOf b) i
+unfolding caseOf
+resource-here b h i = rw h
+
+-- and at flowgate f's place, the case's flowgate
+pub flowgate-here : {b : List ℕ} {r z n : ℕ} → CaseBytes b r z n → (f : ℕ) → flowgateInRangeAt b (flowgatePlace r z f) r ≡ flowgateInRange (caseOf b) f
+unfolding caseOf flowgateInRange
+flowgate-here h f = rw (h .resources, h .zones)
+
 -- ground 5 as the code goes through it
-pub fields-by-place : {b : List ℕ} {r z f : ℕ} → CaseBytes b r z f → fieldsInRange (caseOf b) ≡ (within 0 128000000 (u32At b 8) && all (reserveInRange (caseOf b)) reserves && all (curveInRange b) (upto 4) && all (zoneInRange b) (upto z) && all (resourceInRangeAt b z) (upto r) && all (flowgateInRangeAt b r z) (upto f))
-unfolding fieldsInRange flowgateInRange caseOf all upto
-fields-by-place {b} h = rw (h .resources, h .zones, h .flowgates)
+pub fields-in-turn : {b : List ℕ} {r z f : ℕ} → CaseBytes b r z f → fieldsInRange (caseOf b) ≡ (within 0 128000000 (u32At b 8) && all (reserveInRange (caseOf b)) reserves && all (curveInRange (caseOf b)) curves && all (zoneInRange (caseOf b)) (upto z) && all (resourceNumberedInRange (caseOf b)) (upto r) && all (flowgateInRange (caseOf b)) (upto f))
+unfolding fieldsInRange caseOf
+fields-in-turn {b} h = rw (h .resources, h .zones, h .flowgates)

@@ -1,20 +1,20 @@
 // Ground 5 of the case check: every field of a case file within its range (01, 'The case file').
-// Each function tests some fields by their place; all but one end at the first that is out of range. They ask that these fields
-// lie within the file; `fields_in_range` asks that the file is past refusals 1 to 4.
+// Each function tests some fields; all but one end at the first that is out of range. They ask that these fields lie within the
+// file; `fields_in_range` asks that the file is past refusals 1 to 4. Those of one resource or one flowgate are given its place.
 use market::Counts;
 use market::Status;
 use market::StatusRead;
 ghost use mathlib.Core.Path.{_≡_};
-ghost use mathlib.Core.Bool.{_&&_};
 ghost use Prim.Native.Nat.{_+_, _*_, _<_};
+ghost use lib.ListN.{length};
 ghost use Rattle.arith.specs.Sums.{upto, all};
 ghost use Rattle.market.specs.Bytes.{u8At, u16At, u32At, i32At, signed, within, ±};
-ghost use Rattle.market.specs.Case.{reserves, energySteps};
-ghost use Rattle.market.specs.CaseFile.{caseOf, resourceAt};
-ghost use Rattle.market.specs.CaseCheck.{powers, resourceInRange, reserveInRange, fieldsInRange};
+ghost use Rattle.market.specs.Case.{Reserve, reserves, curves, curveNumbered, curveSteps, energySteps};
+ghost use Rattle.market.specs.CaseFile.{headSize, zoneSize, resourceSize, flowgateSize, flowgateHeadSize, factorSize, caseOf, resourceAt};
+ghost use Rattle.market.specs.CaseCheck.{powers, resourceInRange, reserveInRange, flowgateInRange, fieldsInRange};
 ghost use Rattle.wire.specs.Within.{Within};
 ghost use Rattle.wire.specs.CaseBytes.{CaseBytes};
-ghost use Rattle.ranges.specs.Pieces.{Halved, numberAtMost, stateInRange, offerStepInRange, resourceInRangeAt, reserveInRangeAt, curveStepInRange, curveInRange, zoneInRange, factorInRange, flowgateInRangeAt};
+ghost use Rattle.ranges.specs.Pieces.{Halved, numberAtMost, stateInRange, offerStepInRange, curveStepInRange, curveInRange, zoneInRange, resourceNumberedInRange, ReserveAt, ResourcesIn, factorInRange, flowgateInRangeAt};
 
 // A number in two's complement, of a width whose half range is `half`, is at most so much either way.
 fn either_way(n: u32, half: u32, most: u32) -> bool
@@ -71,7 +71,7 @@ pub fn all_at_most(b: &[u8], at: usize, n: usize, most: u32) -> bool
 
 // ---- a resource, whose 154 bytes stand at a place
 fn state_in_range(b: &[u8], at: usize, zones: usize) -> bool
-    requires { ⌜ Within (now b) at 154 ⌝ }
+    requires { ⌜ Within (now b) at resourceSize ⌝ }
     ensures { λ t. ⌜ t ≡ stateInRange zones (resourceAt (now (b .entry)) at) ⌝ }
 {
     if !byte_between(b, at, 1, 3) {
@@ -91,7 +91,7 @@ fn state_in_range(b: &[u8], at: usize, zones: usize) -> bool
 
 // The three pairs of limits; initial energy, the two off-line limits, self-schedule.
 fn powers_in_range(b: &[u8], at: usize) -> bool
-    requires { ⌜ Within (now b) at 154 ⌝ }
+    requires { ⌜ Within (now b) at resourceSize ⌝ }
     ensures { λ t. ⌜ t ≡ all (within 0 2000000) (powers (resourceAt (now (b .entry)) at)) ⌝ }
 {
     if !all_at_most(b, at + 10, 6, 2000000) {
@@ -101,7 +101,7 @@ fn powers_in_range(b: &[u8], at: usize) -> bool
 }
 
 fn offer_step_in_range(b: &[u8], at: usize, j: usize) -> bool
-    requires { ⌜ Within (now b) (at + 74 + j * 8) 8 ⌝ }
+    requires { ⌜ (Within (now b) at resourceSize) × (j < energySteps) ⌝ }
     ensures { λ t. ⌜ t ≡ offerStepInRange (resourceAt (now (b .entry)) at) j ⌝ }
 {
     if !at_most(b, at + 74 + j * 8, 2000000) {
@@ -111,7 +111,7 @@ fn offer_step_in_range(b: &[u8], at: usize, j: usize) -> bool
 }
 
 fn offer_in_range(b: &[u8], at: usize) -> bool
-    requires { ⌜ Within (now b) at 154 ⌝ }
+    requires { ⌜ Within (now b) at resourceSize ⌝ }
     ensures { λ t. ⌜ t ≡ all (offerStepInRange (resourceAt (now (b .entry)) at)) (upto energySteps) ⌝ }
 {
     let mut j: usize = 0;
@@ -125,7 +125,7 @@ fn offer_in_range(b: &[u8], at: usize) -> bool
 }
 
 fn resource_in_range(b: &[u8], at: usize, zones: usize) -> bool
-    requires { ⌜ Within (now b) at 154 ⌝ }
+    requires { ⌜ Within (now b) at resourceSize ⌝ }
     ensures { λ t. ⌜ t ≡ resourceInRange zones (resourceAt (now (b .entry)) at) ⌝ }
 {
     if !state_in_range(b, at, zones) {
@@ -146,8 +146,8 @@ fn resource_in_range(b: &[u8], at: usize, zones: usize) -> bool
 
 // Their places count, not the resources: so the tests of all fields have one number to keep.
 fn resources_in_range(b: &[u8], resources: usize, zones: usize) -> bool
-    requires { ⌜ Within (now b) (170 + zones * 16) (resources * 154) ⌝ }
-    ensures { λ t. ⌜ t ≡ all (resourceInRangeAt (now (b .entry)) zones) (upto resources) ⌝ }
+    requires { ⌜ ResourcesIn (now b) resources zones ⌝ }
+    ensures { λ t. ⌜ t ≡ all (resourceNumberedInRange (caseOf (now (b .entry)))) (upto resources) ⌝ }
 {
     let end = 170 + zones * 16 + resources * 154;
     let mut at = 170 + zones * 16;
@@ -164,7 +164,7 @@ fn resources_in_range(b: &[u8], resources: usize, zones: usize) -> bool
 // Multiplier and minutes of a reserve stand at `pair`, its largest share and its market requirement at their own places.
 fn reserve_in_range(b: &[u8], pair: usize, share: usize, requirement: usize) -> bool
     requires { ⌜ (Within (now b) pair 4) × (Within (now b) share 2) × (Within (now b) requirement 4) ⌝ }
-    ensures { λ t. ⌜ t ≡ reserveInRangeAt (now (b .entry)) pair share requirement ⌝ }
+    ensures { λ t. ⌜ ((p : Reserve) → ReserveAt p pair share requirement → t ≡ reserveInRange (caseOf (now (b .entry))) p) ⌝ }
 {
     if !short_between(b, pair, 1, 5000) {
         return false;
@@ -180,7 +180,7 @@ fn reserve_in_range(b: &[u8], pair: usize, share: usize, requirement: usize) -> 
 
 // Regulating, contingency, short-term.
 fn reserves_in_range(b: &[u8]) -> bool
-    requires { ⌜ Within (now b) 0 170 ⌝ }
+    requires { ⌜ Within (now b) 0 headSize ⌝ }
     ensures { λ t. ⌜ t ≡ all (reserveInRange (caseOf (now (b .entry)))) reserves ⌝ }
 {
     if !reserve_in_range(b, 16, 24, 30) {
@@ -192,9 +192,10 @@ fn reserves_in_range(b: &[u8]) -> bool
     reserve_in_range(b, 20, 28, 38)
 }
 
+// Of the curve of this number.
 fn curve_step_in_range(b: &[u8], curve: usize, j: usize) -> bool
-    requires { ⌜ Within (now b) (42 + curve * 32 + j * 8) 8 ⌝ }
-    ensures { λ t. ⌜ t ≡ curveStepInRange (now (b .entry)) curve j ⌝ }
+    requires { ⌜ (Within (now b) 0 headSize) × (curve < length curves) × (j < curveSteps) ⌝ }
+    ensures { λ t. ⌜ t ≡ curveStepInRange (caseOf (now (b .entry))) (curveNumbered curve) j ⌝ }
 {
     if !at_most(b, 42 + curve * 32 + j * 8, 8000000) {
         return false;
@@ -203,8 +204,8 @@ fn curve_step_in_range(b: &[u8], curve: usize, j: usize) -> bool
 }
 
 fn curve_in_range(b: &[u8], curve: usize) -> bool
-    requires { ⌜ Within (now b) (42 + curve * 32) 32 ⌝ }
-    ensures { λ t. ⌜ t ≡ curveInRange (now (b .entry)) curve ⌝ }
+    requires { ⌜ (Within (now b) 0 headSize) × (curve < length curves) ⌝ }
+    ensures { λ t. ⌜ t ≡ curveInRange (caseOf (now (b .entry))) (curveNumbered curve) ⌝ }
 {
     let mut j: usize = 0;
     while j < 4 {
@@ -217,8 +218,8 @@ fn curve_in_range(b: &[u8], curve: usize) -> bool
 }
 
 fn curves_in_range(b: &[u8]) -> bool
-    requires { ⌜ Within (now b) 0 170 ⌝ }
-    ensures { λ t. ⌜ t ≡ all (curveInRange (now (b .entry))) (upto 4) ⌝ }
+    requires { ⌜ Within (now b) 0 headSize ⌝ }
+    ensures { λ t. ⌜ t ≡ all (curveInRange (caseOf (now (b .entry)))) curves ⌝ }
 {
     let mut curve: usize = 0;
     while curve < 4 {
@@ -232,8 +233,8 @@ fn curves_in_range(b: &[u8]) -> bool
 
 // ---- zones and flowgates
 fn zones_in_range(b: &[u8], zones: usize) -> bool
-    requires { ⌜ Within (now b) 170 (zones * 16) ⌝ }
-    ensures { λ t. ⌜ t ≡ all (zoneInRange (now (b .entry))) (upto zones) ⌝ }
+    requires { ⌜ Within (now b) headSize (zones * zoneSize) ⌝ }
+    ensures { λ t. ⌜ t ≡ all (zoneInRange (caseOf (now (b .entry)))) (upto zones) ⌝ }
 {
     let mut z: usize = 0;
     while z < zones {
@@ -246,7 +247,7 @@ fn zones_in_range(b: &[u8], zones: usize) -> bool
 }
 
 fn factor_in_range(b: &[u8], at: usize, i: usize) -> bool
-    requires { ⌜ Within (now b) (at + 4 + i * 2) 2 ⌝ }
+    requires { ⌜ Within (now b) (at + flowgateHeadSize + i * factorSize) factorSize ⌝ }
     ensures { λ t. ⌜ t ≡ factorInRange (now (b .entry)) at i ⌝ }
 {
     either_way(wire::u16_at(b, at + 4 + i * 2), 32768, 1000)
@@ -254,7 +255,7 @@ fn factor_in_range(b: &[u8], at: usize, i: usize) -> bool
 
 // Every one is looked at, also after one that is out of range: with no way out of the loop the compiler tests several at once.
 fn factors_in_range(b: &[u8], at: usize, resources: usize) -> bool
-    requires { ⌜ Within (now b) (at + 4) (resources * 2) ⌝ }
+    requires { ⌜ Within (now b) at (flowgateSize resources) ⌝ }
     ensures { λ t. ⌜ t ≡ all (factorInRange (now (b .entry)) at) (upto resources) ⌝ }
 {
     let mut right = true;
@@ -268,8 +269,8 @@ fn factors_in_range(b: &[u8], at: usize, resources: usize) -> bool
 }
 
 fn flowgate_in_range(b: &[u8], at: usize, resources: usize) -> bool
-    requires { ⌜ Within (now b) (at + 4) (resources * 2) ⌝ }
-    ensures { λ t. ⌜ t ≡ (± 20000000 (i32At (now (b .entry)) at) && all (factorInRange (now (b .entry)) at) (upto resources)) ⌝ }
+    requires { ⌜ Within (now b) at (flowgateSize resources) ⌝ }
+    ensures { λ t. ⌜ t ≡ flowgateInRangeAt (now (b .entry)) at resources ⌝ }
 {
     if !word_either_way(b, at, 20000000) {
         return false;
@@ -279,7 +280,7 @@ fn flowgate_in_range(b: &[u8], at: usize, resources: usize) -> bool
 
 fn flowgates_in_range(b: &[u8], resources: usize, zones: usize, flowgates: usize) -> bool
     requires { ⌜ CaseBytes (now b) resources zones flowgates ⌝ }
-    ensures { λ t. ⌜ t ≡ all (flowgateInRangeAt (now (b .entry)) resources zones) (upto flowgates) ⌝ }
+    ensures { λ t. ⌜ t ≡ all (flowgateInRange (caseOf (now (b .entry)))) (upto flowgates) ⌝ }
 {
     let mut f: usize = 0;
     while f < flowgates {
