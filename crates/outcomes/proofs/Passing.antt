@@ -1,10 +1,9 @@
 -- From the stages' answer to the definitions: past 1 to 14 a certificate stands, its numbers fit, and its answer is 01's.
 use mathlib.Core.Path.{_≡_, refl, sym, _∙_, ap}
-use mathlib.Core.List.{List, [], _∷_, _++_}
-use Prim.Native.Nat.{ℕ, _+_, _*_, _<_, _≤_}
+use mathlib.Core.List.{List, [], _∷_}
+use Prim.Native.Nat.{ℕ, _≤_}
 use native.Mathlib.Omega.{arith}
-use lib.IntN.{ℤ}
-use lib.ListN.{length, drop}
+use lib.ListN.{length}
 use Rattle.arith.proofs.Lists.{each-split}
 use Rattle.market.specs.declared.First.{First}
 use Rattle.market.specs.declared.First.the-variants.{None, At}
@@ -14,23 +13,18 @@ use Rattle.market.specs.declared.Counts.{Counts}
 use Rattle.market.specs.declared.Outcome.{Outcome}
 use Rattle.market.specs.declared.Valuation.{Valuation}
 use Rattle.market.specs.declared.Outcome.the-variants as O
-use Rattle.market.specs.declared.Delivery.{Delivery}
-use Rattle.market.specs.declared.Delivery.the-variants as D
 use Rattle.market.specs.CaseFile.{caseOf}
 use Rattle.market.specs.Rows.{rows}
 use Rattle.market.specs.Certificate.{certificateOf}
 use Rattle.market.specs.Cost.{cost}
 use Rattle.market.specs.Bound.{bound}
 use Rattle.market.specs.Records.{countsIn}
-use Rattle.market.specs.Refusals.{Finding, clear, holds, firstOf, firstFailing, foundAt, outcomeOf, deliveryOf, bufferAfter}
-use Rattle.market.specs.Charges.{chargeCount}
-use Rattle.market.specs.Prices.{priceList, priceCount}
+use Rattle.market.specs.Refusals.{Finding, clear, firstOf, firstFailing, foundAt}
 use Rattle.market.specs.Fits.{Fits64}
-use Rattle.market.specs.Outcome.{grounds, rowMet, valuation, outcome, room, priceGrounds, priceAnswer, priceBuffer, chargeGrounds, chargeAnswer, chargeBuffer, listedCharges}
+use Rattle.market.specs.Outcome.{grounds, rowMet, valuation, outcome}
 use Rattle.market.proofs.Grounds.{none-holds, all-clear}
-use Rattle.market.proofs.Accepted.{demand3}
-use Rattle.market.proofs.LentBuffer.{first-then, first-stays, refused-before, too-short, long-enough}
-use Rattle.market.proofs.Lengths.{charge-count, price-count}
+use Rattle.market.proofs.Accepted.{accepted-is, demand3}
+use Rattle.market.proofs.LentBuffer.{first-then, first-stays}
 use Rattle.market.proofs.Ranges.{valid-ranges, price-ranges}
 use Rattle.market.proofs.ScheduleSizes.{cost-size}
 use Rattle.market.proofs.BoundSizes.{bound-size}
@@ -107,73 +101,7 @@ module _ (b q : List ℕ) where
   pub checked : (r : Outcome) → r ≡ outcome b q → Checked b q r
   checked r e = record { answer = e; promise = λ paid least gap h. demand3 b q paid least gap (sym e ∙ h) }
 
--- ---- numbers for a lent buffer: the grounds gs, then 15
-module _ (gs : List Finding) (needed : ℕ) (new old : List ℤ) where
-  abbrev all15 : Finding
-  all15 = firstOf (gs ++ (room needed (length old) ∷ []))
-
-  numbers-refused : (w : Refusal) → firstOf gs ≡ holds w → (D.Refused w ≡ deliveryOf all15) × (old ≡ bufferAfter all15 new old)
-  numbers-refused w h = let e = refused-before gs needed (length old) w h in (rw e, rw e)
-
-  numbers-short : firstOf gs ≡ clear → length old < needed → (D.Refused R.BufferShort ≡ deliveryOf all15) × (old ≡ bufferAfter all15 new old)
-  numbers-short h l = let e = too-short gs needed (length old) h l in (rw e, rw e)
-
-  delivered : firstOf gs ≡ clear → needed ≤ length old → length new ≡ needed → (D.Delivered ≡ deliveryOf all15) × (new ++ drop needed old ≡ bufferAfter all15 new old)
-  delivered h l k = let e = long-enough gs needed (length old) h l in (rw e, rw (e, k))
-
--- ---- the two lists that an accepted certificate gives
-module _ (b q : List ℕ) (n : Counts) (h : AcceptedWith b q n) where
-  prices-needed : n .resources + 4 * n .zones ≡ priceCount (caseOf b)
-  prices-needed = rw (h .counts)
-
-  charges-needed : 21 + 4 * n .zones + n .flowgates + 19 * n .resources ≡ chargeCount (caseOf b)
-  charges-needed = rw (h .counts)
-
-module _ (b q : List ℕ) (old : List ℤ) where
-  abbrev Prices : Delivery → List ℤ → Type 0
-  Prices r out = (r ≡ priceAnswer b q (length old)) × (out ≡ priceBuffer b q old)
-
-  abbrev Charges : Delivery → List ℤ → Type 0
-  Charges r out = (r ≡ chargeAnswer b q (length old)) × (out ≡ chargeBuffer b q old)
-
-  module _ (w : Refusal) (h : stageOf (countsIn (caseOf b)) (firstOf (grounds b q)) ≡ Refused w) where
-    first-is : firstOf (grounds b q) ≡ holds w
-    first-is = refused-holds (countsIn (caseOf b)) w (firstOf (grounds b q)) h
-
-    pub prices-refused : Prices (D.Refused w) old
-    unfolding priceAnswer priceBuffer priceGrounds
-    prices-refused = numbers-refused (grounds b q) (priceCount (caseOf b)) (priceList (caseOf b) (certificateOf q .price)) old w first-is
-
-    pub charges-refused : Charges (D.Refused w) old
-    unfolding chargeAnswer chargeBuffer chargeGrounds
-    charges-refused = numbers-refused (grounds b q) (chargeCount (caseOf b)) (listedCharges b q) old w first-is
-
-  module _ (n : Counts) (h : AcceptedWith b q n) where
-    pub prices-short : length old < n .resources + 4 * n .zones → Prices (D.Refused R.BufferShort) old
-    unfolding priceAnswer priceBuffer priceGrounds
-    prices-short l = numbers-short (grounds b q) (priceCount (caseOf b)) (priceList (caseOf b) (certificateOf q .price)) old (h .none-holds) (omega (arith, prices-needed b q n h))
-
-    pub charges-short : length old < 21 + 4 * n .zones + n .flowgates + 19 * n .resources → Charges (D.Refused R.BufferShort) old
-    unfolding chargeAnswer chargeBuffer chargeGrounds
-    charges-short l = numbers-short (grounds b q) (chargeCount (caseOf b)) (listedCharges b q) old (h .none-holds) (omega (arith, charges-needed b q n h))
-
-    pub prices-written : (out : List ℤ) → n .resources + 4 * n .zones ≤ length old → out ≡ priceList (caseOf b) (certificateOf q .price) ++ drop (priceCount (caseOf b)) old → Prices D.Delivered out
-    unfolding priceAnswer priceBuffer priceGrounds
-    prices-written out l e =
-        let d = delivered (grounds b q) (priceCount (caseOf b)) (priceList (caseOf b) (certificateOf q .price)) old (h .none-holds) (omega (arith, prices-needed b q n h)) (price-count (caseOf b) (certificateOf q .price)) in
-        (d .0, e ∙ d .1)
-
-    pub charges-written : (out : List ℤ) → 21 + 4 * n .zones + n .flowgates + 19 * n .resources ≤ length old → out ≡ listedCharges b q ++ drop (chargeCount (caseOf b)) old → Charges D.Delivered out
-    unfolding chargeAnswer chargeBuffer chargeGrounds
-    charges-written out l e =
-        let d = delivered (grounds b q) (chargeCount (caseOf b)) (listedCharges b q) old (h .none-holds) (omega (arith, charges-needed b q n h)) (charge-count (caseOf b) (certificateOf q .amount) (certificateOf q .price)) in
-        (d .0, e ∙ d .1)
-
 -- ---- the numbers of success fit
-accepted-is : (w v : Valuation) (f : Finding) → outcomeOf w f ≡ O.Accepted v → (f ≡ clear) × (w ≡ v)
-accepted-is w v clear e = (refl, cc)
-accepted-is w v (holds r) e = absurd (let z : _≡_ {A = ℕ} 0 1 = cc in omega arith)
-
 pub accepted-fits : (b q : List ℕ) (v : Valuation) → outcome b q ≡ O.Accepted v → Fits64 (v .cost .0) × Fits64 (v .bound .0) × Fits64 (v .gap .0)
 unfolding outcome valuation
 accepted-fits b q v e =

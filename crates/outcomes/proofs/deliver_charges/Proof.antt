@@ -9,7 +9,8 @@ use Rattle.market.specs.Refusals.{firstOf}
 use Rattle.cases.specs.declared.Stage.the-variants.{Passed, Refused}
 use Rattle.cases.specs.Stages.{stageOf}
 use Rattle.outcomes.specs.Checked.{AcceptedWith}
-use Rattle.outcomes.proofs.Passing.{accepted-with, has-head, charges-refused}
+use Rattle.outcomes.proofs.Passing.{accepted-with, has-head}
+use Rattle.outcomes.proofs.Lent.{charges-refused}
 use Rattle.outcomes.proofs.deliver_charges.Statement.{statement}
 use Rattle.outcomes.proofs.deliver_charges.Tie as tie
 

@@ -1,7 +1,8 @@
 -- `outcomes::hand_over_charges` meets its contract. Assumes nothing.
 use native.Mathlib.Omega.{arith}
 use borrow.Author.Needs.{needs}
-use Rattle.outcomes.proofs.Passing.{all-standing, charges-short, charges-written}
+use Rattle.outcomes.proofs.Passing.{all-standing}
+use Rattle.outcomes.proofs.Lent.{charges-short, charges-written}
 use Rattle.outcomes.proofs.hand_over_charges.Statement.{statement}
 use Rattle.outcomes.proofs.hand_over_charges.Tie as tie
 

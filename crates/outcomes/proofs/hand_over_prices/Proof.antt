@@ -1,7 +1,8 @@
 -- `outcomes::hand_over_prices` meets its contract. Assumes nothing.
 use native.Mathlib.Omega.{arith}
 use borrow.Author.Needs.{needs}
-use Rattle.outcomes.proofs.Passing.{all-standing, prices-short, prices-written}
+use Rattle.outcomes.proofs.Passing.{all-standing}
+use Rattle.outcomes.proofs.Lent.{prices-short, prices-written}
 use Rattle.outcomes.proofs.hand_over_prices.Statement.{statement}
 use Rattle.outcomes.proofs.hand_over_prices.Tie as tie
 
