@@ -12,13 +12,13 @@ use Rattle.market.specs.Case.{Case, energySteps, curveSteps}
 use Rattle.market.specs.declared.CurveSteps.{CurveSteps}
 use Rattle.market.specs.declared.OfferSteps.{OfferSteps}
 use Rattle.market.specs.UpperBounds.{regulation, contingency, onLineShortTerm, offLineShortTerm}
-use Rattle.market.specs.Cost.{width}
+use Rattle.market.specs.Cost.{pricedUpperBound}
 use Rattle.market.specs.Records.{offerStepOf, offerStepsOf}
 use Rattle.market.proofs.Ranges.{CaseRanges}
 use Rattle.market.proofs.LimitSizes.{service-most}
 use Rattle.market.proofs.AmountSizes.{widths-total}
-use Rattle.records.specs.Ranged.{offerStep, curveStep, RangedCurve}
-use Rattle.records.proofs.Ranged.{offer-step-is}
+use Rattle.case_records.specs.Ranged.{offerStep, curveStep, RangedCurve}
+use Rattle.case_records.proofs.Ranged.{offer-step-is}
 use Rattle.limits.specs.Together.{reserveBoundsOf}
 use Rattle.bounds.specs.Sizes.{SmallBounds, SmallStep, SmallSteps, stepsWidth}
 use Rattle.market.specs.Sizes.{mostPower, mostCurveWidth}

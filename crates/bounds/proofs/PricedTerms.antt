@@ -19,18 +19,18 @@ use Rattle.market.specs.Availability.{onLine}
 use Rattle.market.specs.UpperBounds.{Service, regulation, contingency, onLineShortTerm, offLineShortTerm, reserveServices}
 use Rattle.market.specs.Rows.{Balance, Market, rows}
 use Rattle.market.specs.Certificate.{Prices, certificateOf}
-use Rattle.market.specs.Cost.{EnergyStep, Whole, CurveStep, pricedOf, curvePriced, priced, width}
+use Rattle.market.specs.Cost.{EnergyStep, Whole, CurveStep, pricedOf, curvePriced, priced, pricedUpperBound}
 use Rattle.market.specs.Bound.{lowest}
 use Rattle.market.specs.Records.{power, millicents, offerStepOf, offerStepsOf, curveStepOf, curveStepsOf}
 use Rattle.market.proofs.NetPrices.{net-prices-in-words}
 use Rattle.market.proofs.Ranges.{CaseRanges, PriceRanges}
-use Rattle.records.specs.Ranged.{offerStep, curveStep}
-use Rattle.records.proofs.Places.{resources-is}
-use Rattle.records.proofs.Ranged.{offer-step-is, curve-step-is}
+use Rattle.case_records.specs.Ranged.{offerStep, curveStep}
+use Rattle.case_records.proofs.Places.{resources-is}
+use Rattle.case_records.proofs.Ranged.{offer-step-is, curve-step-is}
 use Rattle.limits.specs.Together.{reserveBoundsOf}
 use Rattle.prices.specs.Standing.{PricesStand}
-use Rattle.nets.specs.NetPrices.{netsOf}
-use Rattle.nets.proofs.Known.{step-is}
+use Rattle.net_prices.specs.NetPrices.{netsOf}
+use Rattle.net_prices.proofs.Known.{step-is}
 use Rattle.bounds.specs.Sizes.{Figure}
 use Rattle.bounds.specs.Terms.{rowTerm, pricedTerm, zoneTerms, flowgateTerm, limitTerms, leastTerms, resourceTerms, stepLeast, reservesLeast, curveStepLeast}
 use Rattle.bounds.proofs.RowTerms.{over-curves, rows-are}
@@ -46,14 +46,14 @@ over-reserves f = rw (+ℤ-idr (f offLineShortTerm))
 
 module _ (c : Case) (y : Prices) (h : CaseRanges c) (p : PriceRanges c y) (i : ℕ) (n : i < c .resources) where
   pub step-least-is : (j : ℕ) → j < energySteps → stepLeast (netsOf c y i) (onLine (c .resource i)) (offerStep (offerStepsOf (c .resource i)) j) ≡ lowest c y (EnergyStep i j)
-  unfolding stepLeast netsOf offerStepOf lowest width
+  unfolding stepLeast netsOf offerStepOf lowest pricedUpperBound
   step-least-is j l = rw (offer-step-is (c .resource i) j l, step-is c y h p i n j, chosen (onLine (c .resource i)) (c .resource i .stepWidth j))
 
   steps-least-are : sumOf (λ j. stepLeast (netsOf c y i) (onLine (c .resource i)) (offerStep (offerStepsOf (c .resource i)) j)) (upto energySteps) ≡ sumOf (λ j. lowest c y (EnergyStep i j)) (upto energySteps)
   steps-least-are = sum-each-ext _ _ (upto energySteps) (each-upto _ energySteps step-least-is)
 
   reserves-least-are : reservesLeast (netsOf c y i) (reserveBoundsOf c (c .resource i)) ≡ sumOf (lowest c y) (map (Whole i) reserveServices)
-  unfolding reservesLeast netsOf reserveBoundsOf lowest width
+  unfolding reservesLeast netsOf reserveBoundsOf lowest pricedUpperBound
   reserves-least-are = over-reserves (λ s. lowest c y (Whole i s)) ∙ sym (sum-map (lowest c y) (Whole i) reserveServices)
 
   pub resource-least-is : sumOf (λ j. stepLeast (netsOf c y i) (onLine (c .resource i)) (offerStep (offerStepsOf (c .resource i)) j)) (upto energySteps)
@@ -68,7 +68,7 @@ module _ (c : Case) (y : Prices) (h : CaseRanges c) (p : PriceRanges c y) (i : �
 -- ---- the curves
 module _ (c : Case) (y : Prices) where
   pub curve-step-least-is : (k : Curve) (j : ℕ) → j < curveSteps → curveStepLeast (millicents (y (Market k))) (curveStep (curveStepsOf c k) j) ≡ lowest c y (CurveStep k j)
-  unfolding curveStepLeast curveStepOf lowest width
+  unfolding curveStepLeast curveStepOf lowest pricedUpperBound
   curve-step-least-is k j l = rw (curve-step-is c k j l, net-prices-in-words c y .curve-step k j)
 
   curve-least-is : (k : Curve) → sumOf (λ j. curveStepLeast (millicents (y (Market k))) (curveStep (curveStepsOf c k) j)) (upto curveSteps) ≡ sumOf (lowest c y) (curvePriced k)

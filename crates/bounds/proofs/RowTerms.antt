@@ -19,7 +19,7 @@ use Rattle.market.specs.Records.{millicents, power, reservePricesOf, limitPrice
 use Rattle.market.proofs.TakenByRows.{rows-sum}
 use Rattle.market.proofs.Ranges.{CaseRanges}
 use Rattle.market.proofs.RowSizes.{right-size}
-use Rattle.records.proofs.Places.{resources-is, zones-is, flowgates-is}
+use Rattle.case_records.proofs.Places.{resources-is, zones-is, flowgates-is}
 use Rattle.limits.specs.Together.{limitsOf}
 use Rattle.prices.specs.Standing.{PricesStand}
 use Rattle.prices.proofs.Known.{case-ranges, balance-size, flowgate-size, limit-size}

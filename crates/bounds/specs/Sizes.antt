@@ -15,10 +15,10 @@ use Rattle.market.specs.CaseCheck.{mostZones, mostFlowgates}
 use Rattle.market.specs.UpperBounds.{Service, energy, regulation, contingency, onLineShortTerm, offLineShortTerm}
 use Rattle.market.specs.Rows.{maxWithReserve, maxWithShortTerm, minimum, high, low}
 use Rattle.market.specs.Sizes.{mostPower, mostCents, mostDemand, mostCurveWidth, mostZoneRequirement, mostFlowgateLimit, mostLimit, mostPrice, mostServiceNet, mostCurveNet}
-use Rattle.records.specs.Ranged.{offerStep}
+use Rattle.case_records.specs.Ranged.{offerStep}
 use Rattle.limits.specs.declared.ReserveBounds.{ReserveBounds}
 use Rattle.limits.specs.declared.ResourceLimits.{ResourceLimits}
-use Rattle.nets.specs.Sizes.{SmallOffer, SmallPrice}
+use Rattle.net_prices.specs.Sizes.{SmallOffer, SmallPrice}
 use Rattle.bounds.specs.Terms.{required}
 
 -- ---- how large they can be, in grains: row price × right side

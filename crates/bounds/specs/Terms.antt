@@ -20,7 +20,7 @@ use Rattle.market.specs.Bound.{lowest}
 use Rattle.market.specs.Records.{power}
 use Rattle.limits.specs.declared.ReserveBounds.{ReserveBounds}
 use Rattle.limits.specs.declared.ResourceLimits.{ResourceLimits}
-use Rattle.nets.specs.declared.Nets.{Nets}
+use Rattle.net_prices.specs.declared.Nets.{Nets}
 
 -- ---- of the bytes
 -- row price × right side

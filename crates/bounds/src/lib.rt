@@ -17,13 +17,13 @@ ghost use Rattle.market.specs.Records.{grains, recordOf};
 ghost use Rattle.market.specs.CaseCheck.{mostResources, mostZones, mostFlowgates};
 ghost use Rattle.market.specs.UpperBounds.{energy};
 ghost use Rattle.market.specs.Sizes.{mostPower, mostCurveWidth, mostPrice, mostServiceNet};
-ghost use Rattle.records.specs.Places.{HeadIn};
-ghost use Rattle.records.specs.Ranged.{Ranged, RangedCurve, offerStep, curveStep};
+ghost use Rattle.case_records.specs.Places.{HeadIn};
+ghost use Rattle.case_records.specs.Ranged.{Ranged, RangedCurve, offerStep, curveStep};
 ghost use Rattle.limits.specs.Together.{reserveBoundsOf};
 ghost use Rattle.units.specs.Room.{SumRoom, ProductRoom};
 ghost use Rattle.prices.specs.Standing.{PricesStand, Standing};
 ghost use Rattle.prices.specs.ZonePrices.{SmallPrices};
-ghost use Rattle.nets.specs.Sizes.{SmallPrice, SmallNets, SmallLimitPrices};
+ghost use Rattle.net_prices.specs.Sizes.{SmallPrice, SmallNets, SmallLimitPrices};
 ghost use Rattle.bounds.specs.Sizes.{mostZoneTerms, mostFlowgateTerm, mostCommonTerms, mostLimitTerms, mostServiceTerm, mostReserveTerms, mostLeastTerms, mostResourceTerms, mostCurveStepTerm, mostCurveTerms, mostCurvesTerms, Figure, RowRoom, SmallRequirements, SmallLimits, SmallBounds, SmallStep, SmallSteps};
 ghost use Rattle.bounds.specs.Terms.{rowTerm, pricedTerm, zoneTerms, flowgateTerm, leastTerms, resourceTerms, zoneValue, limitValue, leastOf, stepBound, stepLeast, reservesLeast, curveStepLeast};
 use limits::ReserveBounds;
@@ -39,7 +39,7 @@ use market::Resource;
 use market::Step;
 use market::Watts;
 use market::ZoneRequirements;
-use nets::Nets;
+use net_prices::Nets;
 
 // ---- figures in grains, with how large they can be
 
@@ -93,8 +93,8 @@ fn zone_terms(b: &[u8], q: &[u8], r: usize, z: usize, f: usize, zone: usize) -> 
     requires { ⌜ PricesStand (now b) (now q) r z f × (zone < z) ⌝ }
     ensures { λ g. ⌜ Figure g (zoneTerms (now (b .entry)) (now (q .entry)) zone) mostZoneTerms ⌝ }
 {
-    let prices = entries::zone_prices_at(q, r, z, f, zone);
-    let needed = readers::zone_at(b, r, z, f, zone);
+    let prices = certificate_records::zone_prices_at(q, r, z, f, zone);
+    let needed = case_reader::zone_at(b, r, z, f, zone);
     zone_value(prices, needed)
 }
 
@@ -119,8 +119,8 @@ fn flowgate_term(b: &[u8], q: &[u8], r: usize, z: usize, f: usize, flowgate: usi
     requires { ⌜ PricesStand (now b) (now q) r z f × (flowgate < f) ⌝ }
     ensures { λ g. ⌜ Figure g (flowgateTerm (now (b .entry)) (now (q .entry)) flowgate) mostFlowgateTerm ⌝ }
 {
-    let price = entries::flowgate_price_at(q, r, z, f, flowgate);
-    let limit = readers::flowgate_limit_at(b, r, z, f, flowgate);
+    let price = certificate_records::flowgate_price_at(q, r, z, f, flowgate);
+    let limit = case_reader::flowgate_limit_at(b, r, z, f, flowgate);
     let most = units::in_watts(limit);
     let side = units::watts_difference(Watts(0), most);
     units::flow_value(price, side)
@@ -165,8 +165,8 @@ fn common_terms(b: &[u8], q: &[u8], r: usize, z: usize, f: usize) -> Grains
     requires { ⌜ PricesStand (now b) (now q) r z f ⌝ }
     ensures { λ g. ⌜ Figure g (rowTerm (now (b .entry)) (now (q .entry)) Balance +ℤ (sumOf (zoneTerms (now (b .entry)) (now (q .entry))) (upto z) +ℤ sumOf (flowgateTerm (now (b .entry)) (now (q .entry))) (upto f))) mostCommonTerms ⌝ }
 {
-    let price = entries::balance_price(q, r, z, f);
-    let demand = readers::demand(b, r, z, f);
+    let price = certificate_records::balance_price(q, r, z, f);
+    let demand = case_reader::demand(b, r, z, f);
     let balance = worth(price, demand);
     let zones = zones_sum(b, q, r, z, f);
     let flowgates = flowgates_sum(b, q, r, z, f);
@@ -190,7 +190,7 @@ fn step_least(prices: Nets, on: bool, step: Step) -> Grains
     requires { ⌜ SmallNets prices × SmallStep step mostPower ⌝ }
     ensures { λ g. ⌜ Figure g (stepLeast prices on step) (mostServiceNet energy * natAbs (step .width .0)) ⌝ }
 {
-    let net = nets::step_net(prices, step.price);
+    let net = net_prices::step_net(prices, step.price);
     let upper = step_bound(on, step.width);
     least_of(net, upper)
 }
@@ -224,7 +224,7 @@ pub fn reserve_bounds(
     requires { ⌜ (HeadIn (now b) × Valid (now b)) × Ranged resource ⌝ }
     ensures { λ u. ⌜ ((s : Figures) → on ≡ onLine s → resource ≡ recordOf s → u ≡ reserveBoundsOf (caseOf (now (b .entry))) s) ⌝ }
 {
-    let terms = readers::terms_in(b, r, z, f);
+    let terms = case_reader::terms_in(b, r, z, f);
     limits::reserve_bounds(terms, on, resource)
 }
 
@@ -255,9 +255,9 @@ fn least_terms(
     ensures { λ g. ⌜ Figure g (leastTerms (now (b .entry)) (now (q .entry)) i) mostLeastTerms ⌝ }
 {
     let on = limits::on_line(resource);
-    let prices = nets::nets_for(b, q, r, z, f, i, on, resource);
+    let prices = net_prices::nets_for(b, q, r, z, f, i, on, resource);
     let uppers = reserve_bounds(b, r, z, f, on, resource);
-    let steps = steps_least(prices, on, readers::offer_steps_at(b, r, z, f, i));
+    let steps = steps_least(prices, on, case_reader::offer_steps_at(b, r, z, f, i));
     let reserves = reserves_least(prices, uppers);
     plus(steps, reserves)
 }
@@ -268,8 +268,8 @@ fn resource_terms(b: &[u8], q: &[u8], r: usize, z: usize, f: usize, i: usize) ->
     requires { ⌜ PricesStand (now b) (now q) r z f × (i < r) ⌝ }
     ensures { λ g. ⌜ Figure g (resourceTerms (now (b .entry)) (now (q .entry)) i) mostResourceTerms ⌝ }
 {
-    let prices = entries::limit_prices_at(q, r, z, f, i);
-    let resource = readers::resource_at(b, r, z, f, i);
+    let prices = certificate_records::limit_prices_at(q, r, z, f, i);
+    let resource = case_reader::resource_at(b, r, z, f, i);
     let held = limits::limits_of(resource);
     let rows = limit_value(prices, held);
     let least = least_terms(b, q, r, z, f, i, resource);
@@ -297,7 +297,7 @@ fn curve_step_least(price: Millicents, step: Step) -> Grains
     requires { ⌜ SmallPrice price × SmallStep step mostCurveWidth ⌝ }
     ensures { λ g. ⌜ Figure g (curveStepLeast price step) mostCurveStepTerm ⌝ }
 {
-    let net = nets::curve_net(price, step.price);
+    let net = net_prices::curve_net(price, step.price);
     least_of(net, step.width)
 }
 
@@ -320,14 +320,14 @@ fn curves_least(b: &[u8], q: &[u8], r: usize, z: usize, f: usize) -> Grains
     requires { ⌜ PricesStand (now b) (now q) r z f ⌝ }
     ensures { λ g. ⌜ Figure g (sumOf (pricedTerm (now (b .entry)) (now (q .entry))) (across curvePriced curves)) mostCurvesTerms ⌝ }
 {
-    let prices = entries::market_prices(q, r, z, f);
-    let operating = curve_least(prices.operating, readers::curve_at(b, r, z, f, 0));
+    let prices = certificate_records::market_prices(q, r, z, f);
+    let operating = curve_least(prices.operating, case_reader::curve_at(b, r, z, f, 0));
     let both = curve_least(
         prices.regulating_plus_spinning,
-        readers::curve_at(b, r, z, f, 1),
+        case_reader::curve_at(b, r, z, f, 1),
     );
-    let regulating = curve_least(prices.regulating, readers::curve_at(b, r, z, f, 2));
-    let short_term = curve_least(prices.short_term, readers::curve_at(b, r, z, f, 3));
+    let regulating = curve_least(prices.regulating, case_reader::curve_at(b, r, z, f, 2));
+    let short_term = curve_least(prices.short_term, case_reader::curve_at(b, r, z, f, 3));
     let last = plus(regulating, short_term);
     let rest = plus(both, last);
     plus(operating, rest)

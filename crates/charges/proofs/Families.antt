@@ -13,16 +13,16 @@ use Rattle.market.specs.Availability.{onLine}
 use Rattle.market.specs.UpperBounds.{Schedule, Provided, Cleared, energy, reserveServices}
 use Rattle.market.specs.Rows.{Market}
 use Rattle.market.specs.Certificate.{Prices}
-use Rattle.market.specs.Cost.{EnergyStep, Whole, CurveStep, pricedOf, curvePriced, priced, part, width}
+use Rattle.market.specs.Cost.{EnergyStep, Whole, CurveStep, pricedOf, curvePriced, priced, part, pricedUpperBound}
 use Rattle.market.specs.Bound.{lowest}
 use Rattle.market.specs.Charges.{pricedCharge}
 use Rattle.market.specs.Records.{millicents, amountsOf, offerStepOf, offerStepsOf, curveStepOf, curveStepsOf}
 use Rattle.market.proofs.NetPrices.{net-prices-in-words}
 use Rattle.market.proofs.Ranges.{CaseRanges, PriceRanges}
-use Rattle.records.specs.Ranged.{offerStep, curveStep}
-use Rattle.records.proofs.Ranged.{offer-step-is, curve-step-is}
-use Rattle.nets.specs.NetPrices.{netsOf}
-use Rattle.nets.proofs.Known.{step-is}
+use Rattle.case_records.specs.Ranged.{offerStep, curveStep}
+use Rattle.case_records.proofs.Ranged.{offer-step-is, curve-step-is}
+use Rattle.net_prices.specs.NetPrices.{netsOf}
+use Rattle.net_prices.proofs.Known.{step-is}
 use Rattle.limits.specs.Together.{reserveBoundsOf}
 use Rattle.bounds.specs.Terms.{stepLeast, curveStepLeast}
 use Rattle.bounds.proofs.PricedTerms.{step-least-is, curve-step-least-is}
@@ -72,7 +72,7 @@ module _ (c : Case) (x : Schedule) (y : Prices) where
     steps-are = map-same _ _ (upto energySteps) (each-upto _ energySteps energy-charge-is) ∙ sym (map-map (pricedCharge c x y) (EnergyStep i) (upto energySteps))
 
     reserves-are : reserveCharges (netsOf c y i) (amountsOf x i) (reserveBoundsOf c (c .resource i)) ≡ map (pricedCharge c x y) (map (Whole i) reserveServices)
-    unfolding reserveCharges netsOf amountsOf reserveBoundsOf pricedCharge lowest width part
+    unfolding reserveCharges netsOf amountsOf reserveBoundsOf pricedCharge lowest pricedUpperBound part
     reserves-are = refl
 
     pub resource-is : map (energyCharge (netsOf c y i) (onLine (c .resource i)) (offerStepsOf (c .resource i)) (x (Provided i energy))) (upto energySteps)

@@ -16,7 +16,7 @@ use Rattle.market.specs.declared.Kw.{Kw}
 use Rattle.market.specs.declared.Millicents.{Millicents}
 use Rattle.market.specs.declared.OfferSteps.{OfferSteps}
 use Rattle.market.specs.declared.Step.{Step}
-use Rattle.records.specs.Ranged.{RangedSteps, RangedCurve, offerStep, curveStep}
+use Rattle.case_records.specs.Ranged.{RangedSteps, RangedCurve, offerStep, curveStep}
 use Rattle.units.specs.Room.{SumRoom}
 use Rattle.bounds.specs.Sizes.{Figure}
 use Rattle.bounds.proofs.Figures.{product-room}

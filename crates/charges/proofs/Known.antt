@@ -25,13 +25,13 @@ use Rattle.market.specs.declared.Millicents.{Millicents}
 use Rattle.market.specs.declared.OfferSteps.{OfferSteps}
 use Rattle.market.proofs.Lengths.{row-count}
 use Rattle.market.proofs.ScheduleSizes.{amount-of}
-use Rattle.records.proofs.Places.{resources-is, zones-is, flowgates-is}
+use Rattle.case_records.proofs.Places.{resources-is, zones-is, flowgates-is}
 use Rattle.prices.specs.Standing.{Standing}
 use Rattle.prices.proofs.Known.{case-ranges, prices-in-range, resource-below}
-use Rattle.nets.specs.declared.Nets.{Nets}
-use Rattle.nets.specs.NetPrices.{netsOf}
-use Rattle.nets.specs.Sizes.{SmallNets}
-use Rattle.nets.proofs.Known.{nets-small}
+use Rattle.net_prices.specs.declared.Nets.{Nets}
+use Rattle.net_prices.specs.NetPrices.{netsOf}
+use Rattle.net_prices.specs.Sizes.{SmallNets}
+use Rattle.net_prices.proofs.Known.{nets-small}
 use Rattle.limits.specs.declared.ReserveBounds.{ReserveBounds}
 use Rattle.bounds.specs.Sizes.{SmallBounds}
 use Rattle.limits.specs.Together.{reserveBoundsOf}

@@ -11,7 +11,7 @@ use Rattle.market.specs.declared.Step.{Step}
 use Rattle.market.specs.Case.{widthOf}
 use Rattle.market.specs.Cost.{filled}
 use Rattle.market.specs.Records.{power}
-use Rattle.records.specs.Ranged.{UpTo}
+use Rattle.case_records.specs.Ranged.{UpTo}
 use Rattle.costs.specs.declared.Filled.{Filled}
 use Rattle.costs.specs.Steps.{mostInSteps, fillingOf, widthsOf, StepRanges}
 use Rattle.costs.proofs.Filling.{before-steps, next-step, left-room, width-room}

@@ -10,9 +10,9 @@ use Rattle.market.specs.declared.OfferSteps.{OfferSteps}
 use Rattle.market.specs.declared.Step.{Step}
 use Rattle.market.specs.Fits.{range64}
 use Rattle.market.specs.Sizes.{mostPower}
-use Rattle.records.specs.Ranged.{UpTo, RangedSteps, RangedCurve}
+use Rattle.case_records.specs.Ranged.{UpTo, RangedSteps, RangedCurve}
 use Rattle.units.specs.Room.{ProductRoom}
-use Rattle.nets.specs.Sizes.{SmallPrice}
+use Rattle.net_prices.specs.Sizes.{SmallPrice}
 use Rattle.bounds.specs.Sizes.{SmallStep}
 use Rattle.costs.specs.Steps.{mostInSteps}
 use Rattle.charges.specs.declared.ClearedCurve.{ClearedCurve}

@@ -19,8 +19,8 @@ use Rattle.market.specs.Certificate.{certificateOf}
 use Rattle.market.specs.Cost.{Priced, pricedOf, filled}
 use Rattle.market.specs.Charges.{pricedCharge}
 use Rattle.market.specs.Records.{power, millicents, curveStepsOf}
-use Rattle.records.specs.Ranged.{offerStep, curveStep}
-use Rattle.nets.specs.declared.Nets.{Nets}
+use Rattle.case_records.specs.Ranged.{offerStep, curveStep}
+use Rattle.net_prices.specs.declared.Nets.{Nets}
 use Rattle.limits.specs.declared.ReserveBounds.{ReserveBounds}
 use Rattle.bounds.specs.Terms.{leastOf, stepBound}
 use Rattle.limits.specs.Widths.{widthsOf}

@@ -14,9 +14,9 @@ ghost use Rattle.market.specs.Cost.{curvePriced, priced};
 ghost use Rattle.market.specs.Charges.{pricedCharge, charges, chargeCount};
 ghost use Rattle.market.specs.Records.{grains, curveStepsOf};
 ghost use Rattle.market.specs.Sizes.{mostPower, mostCurveWidth};
-ghost use Rattle.records.specs.Places.{CurveIn};
+ghost use Rattle.case_records.specs.Places.{CurveIn};
 ghost use Rattle.prices.specs.Standing.{Standing};
-ghost use Rattle.nets.specs.Sizes.{SmallPrice, SmallNets};
+ghost use Rattle.net_prices.specs.Sizes.{SmallPrice, SmallNets};
 ghost use Rattle.bounds.specs.Sizes.{SmallBounds};
 ghost use Rattle.charges.specs.Sizes.{ChargeRoom, StepRoom, StepsRoom, SmallReserves, CurveRoom, ClearedRoom};
 ghost use Rattle.charges.specs.Terms.{chargeIn, resourceCharges, chargeOf, stepCharge, energyCharge, reserveCharges, curveStepCharge, curveCharge, clearedCurve, curveCharges};
@@ -28,7 +28,7 @@ use market::Kw;
 use market::Millicents;
 use market::OfferSteps;
 use market::Step;
-use nets::Nets;
+use net_prices::Nets;
 
 // What an amount adds at its net price, beyond the least that it could add up to its upper bound.
 fn quantity_charge(net: Millicents, amount: Kw, upper: Kw) -> Grains
@@ -47,7 +47,7 @@ fn step_charge(prices: Nets, on: bool, step: Step, part: Kw) -> Grains
     requires { ⌜ SmallNets prices × StepRoom step part mostPower ⌝ }
     ensures { λ g. ⌜ g ≡ grains (stepCharge prices on step (part .0)) ⌝ }
 {
-    let net = nets::step_net(prices, step.price);
+    let net = net_prices::step_net(prices, step.price);
     let upper = bounds::step_bound(on, step.width);
     quantity_charge(net, part, upper)
 }
@@ -102,12 +102,12 @@ fn write_resource(b: &[u8], q: &[u8], r: usize, z: usize, f: usize, i: usize, ou
     requires { ⌜ (Standing (now b) (now q) r z f × (i < r)) × (14 ≤ length (now out)) ⌝ }
     ensures { λ _. ⌜ now (out .exit) ≡ resourceCharges (now (b .entry)) (now (q .entry)) i ++ drop 14 (now (out .entry)) ⌝ }
 {
-    let resource = readers::resource_at(b, r, z, f, i);
-    let amounts = entries::amounts_at(q, r, z, f, i);
+    let resource = case_reader::resource_at(b, r, z, f, i);
+    let amounts = certificate_records::amounts_at(q, r, z, f, i);
     let on = limits::on_line(resource);
-    let prices = nets::nets_for(b, q, r, z, f, i, on, resource);
+    let prices = net_prices::nets_for(b, q, r, z, f, i, on, resource);
     let uppers = bounds::reserve_bounds(b, r, z, f, on, resource);
-    let steps = readers::offer_steps_at(b, r, z, f, i);
+    let steps = case_reader::offer_steps_at(b, r, z, f, i);
     write_steps(prices, on, steps, amounts.energy, out);
     write_reserves(prices, amounts, uppers, &mut out[10..]);
 }
@@ -133,7 +133,7 @@ fn curve_step_charge(price: Millicents, step: Step, part: Kw) -> Grains
     requires { ⌜ SmallPrice price × StepRoom step part mostCurveWidth ⌝ }
     ensures { λ g. ⌜ g ≡ grains (curveStepCharge price step (part .0)) ⌝ }
 {
-    let net = nets::curve_net(price, step.price);
+    let net = net_prices::curve_net(price, step.price);
     quantity_charge(net, part, step.width)
 }
 
@@ -175,7 +175,7 @@ fn cleared_curve(
     requires { ⌜ CurveIn (now b) k ⌝ }
     ensures { λ v. ⌜ v ≡ clearedCurve price (curveStepsOf (caseOf (now (b .entry))) (curveNumbered k)) cleared ⌝ }
 {
-    let steps = readers::curve_at(b, r, z, f, k);
+    let steps = case_reader::curve_at(b, r, z, f, k);
     ClearedCurve {
         price: price,
         steps: steps,
@@ -197,8 +197,8 @@ fn write_curves(b: &[u8], q: &[u8], r: usize, z: usize, f: usize, out: &mut [i64
     requires { ⌜ Standing (now b) (now q) r z f × (16 ≤ length (now out)) ⌝ }
     ensures { λ _. ⌜ now (out .exit) ≡ map (chargeIn (now (b .entry)) (now (q .entry))) (across curvePriced curves) ++ drop 16 (now (out .entry)) ⌝ }
 {
-    let prices = entries::market_prices(q, r, z, f);
-    let cleared = entries::cleared(q, r, z, f);
+    let prices = certificate_records::market_prices(q, r, z, f);
+    let cleared = certificate_records::cleared(q, r, z, f);
     let operating = cleared_curve(b, r, z, f, 0, prices.operating, cleared.operating);
     let both = cleared_curve(
         b,

@@ -19,7 +19,7 @@ use Rattle.market.specs.declared.Kw.{Kw}
 use Rattle.market.proofs.Steps.{filled-below}
 use Rattle.market.specs.declared.OfferSteps.{OfferSteps}
 use Rattle.market.specs.declared.CurveSteps.{CurveSteps}
-use Rattle.records.specs.Ranged.{UpTo, RangedSteps, RangedCurve, offerStep, curveStep}
+use Rattle.case_records.specs.Ranged.{UpTo, RangedSteps, RangedCurve, offerStep, curveStep}
 use Rattle.limits.specs.Widths.{widthsOf}
 use Rattle.limits.proofs.Widths.{width-more, widths-same}
 use Rattle.units.specs.Room.{SumRoom, ProductRoom}

@@ -9,7 +9,7 @@ use Rattle.market.specs.Cost.{filled}
 use Rattle.market.specs.Records.{power}
 use Rattle.market.specs.declared.Kw.{Kw}
 use Rattle.market.specs.declared.Step.{Step}
-use Rattle.records.specs.Ranged.{UpTo}
+use Rattle.case_records.specs.Ranged.{UpTo}
 use Rattle.limits.specs.Widths.{widthsOf}
 use Rattle.units.specs.Room.{SumRoom, ProductRoom}
 use Rattle.costs.specs.Steps.{mostInSteps, fillingOf, stepWorth, stepsWorth, StepRanges}

@@ -14,8 +14,8 @@ use Rattle.market.specs.Certificate.{certificateOf}
 use Rattle.market.specs.Records.{recordOf, offerStepsOf, curveStepsOf, amountsOf}
 use Rattle.market.specs.Fits.{Fits64}
 use Rattle.market.proofs.ScheduleSizes.{amount-of}
-use Rattle.records.specs.Ranged.{UpTo, Ranged, RangedSteps, RangedCurve, offerStep}
-use Rattle.records.proofs.Ranged.{valid-resource, valid-steps, curve-ranged}
+use Rattle.case_records.specs.Ranged.{UpTo, Ranged, RangedSteps, RangedCurve, offerStep}
+use Rattle.case_records.proofs.Ranged.{valid-resource, valid-steps, curve-ranged}
 use Rattle.units.specs.Room.{SumRoom}
 use Rattle.prices.specs.Standing.{Standing}
 use Rattle.prices.proofs.Known.{case-ranges, resource-below, amount-small, amounts-small}

@@ -15,8 +15,8 @@ use Rattle.market.specs.Cost.{EnergyStep, Whole, CurveStep, pricedOf, curvePric
 use Rattle.market.specs.Records.{offerStepOf, offerStepsOf, curveStepOf, curveStepsOf, reserveOffersOf, recordOf, amountsOf}
 use Rattle.market.specs.declared.Amounts.{Amounts}
 use Rattle.market.specs.declared.ReserveOffers.{ReserveOffers}
-use Rattle.records.specs.Ranged.{offerStep, curveStep, RangedOffers}
-use Rattle.records.proofs.Ranged.{offer-step-is, curve-step-is}
+use Rattle.case_records.specs.Ranged.{offerStep, curveStep, RangedOffers}
+use Rattle.case_records.proofs.Ranged.{offer-step-is, curve-step-is}
 use Rattle.units.specs.Room.{ProductRoom}
 use Rattle.prices.specs.Standing.{SmallAmounts}
 use Rattle.costs.specs.Steps.{stepsWorth}

@@ -5,7 +5,7 @@ use Rattle.arith.specs.Sums.{sumOf, upto}
 use Rattle.market.specs.Cost.{filled}
 use Rattle.market.specs.Records.{power}
 use Rattle.market.specs.declared.Step.{Step}
-use Rattle.records.specs.Ranged.{UpTo}
+use Rattle.case_records.specs.Ranged.{UpTo}
 use Rattle.limits.specs.Widths.{widthsOf}
 use Rattle.costs.specs.declared.Filled.{Filled}
 

@@ -10,7 +10,7 @@ ghost use Rattle.market.specs.Certificate.{certificateOf};
 ghost use Rattle.market.specs.Cost.{cost};
 ghost use Rattle.market.specs.Records.{grains};
 ghost use Rattle.market.specs.Fits.{Fits64};
-ghost use Rattle.records.specs.Ranged.{UpTo, RangedSteps, RangedCurve, RangedOffers, offerStep, curveStep};
+ghost use Rattle.case_records.specs.Ranged.{UpTo, RangedSteps, RangedCurve, RangedOffers, offerStep, curveStep};
 ghost use Rattle.units.specs.Room.{SumRoom, ProductRoom};
 ghost use Rattle.prices.specs.Standing.{Standing, SmallAmounts};
 ghost use Rattle.costs.specs.Steps.{mostInSteps, fillingOf, stepsWorth};
@@ -129,9 +129,9 @@ fn resource_worth(b: &[u8], q: &[u8], r: usize, z: usize, f: usize, i: usize) ->
     requires { ⌜ Standing (now b) (now q) r z f × (i < r) ⌝ }
     ensures { λ v. ⌜ v ≡ thousands (resourceWorth (caseOf (now (b .entry))) (certificateOf (now (q .entry)) .amount) i) ⌝ }
 {
-    let resource = readers::resource_at(b, r, z, f, i);
-    let amounts = entries::amounts_at(q, r, z, f, i);
-    let energy = energy_worth(readers::offer_steps_at(b, r, z, f, i), amounts.energy);
+    let resource = case_reader::resource_at(b, r, z, f, i);
+    let amounts = certificate_records::amounts_at(q, r, z, f, i);
+    let energy = energy_worth(case_reader::offer_steps_at(b, r, z, f, i), amounts.energy);
     let reserves = reserves_worth(resource.offers, amounts);
     sum(energy, reserves)
 }
@@ -156,14 +156,14 @@ fn curves_value(b: &[u8], q: &[u8], r: usize, z: usize, f: usize) -> ThousandGra
     requires { ⌜ Standing (now b) (now q) r z f ⌝ }
     ensures { λ v. ⌜ v ≡ thousands (sumOf (curveValue (caseOf (now (b .entry))) (certificateOf (now (q .entry)) .amount)) curves) ⌝ }
 {
-    let cleared = entries::cleared(q, r, z, f);
-    let operating = curve_value(readers::curve_at(b, r, z, f, 0), cleared.operating);
+    let cleared = certificate_records::cleared(q, r, z, f);
+    let operating = curve_value(case_reader::curve_at(b, r, z, f, 0), cleared.operating);
     let spinning = curve_value(
-        readers::curve_at(b, r, z, f, 1),
+        case_reader::curve_at(b, r, z, f, 1),
         cleared.regulating_plus_spinning,
     );
-    let regulating = curve_value(readers::curve_at(b, r, z, f, 2), cleared.regulating);
-    let short_term = curve_value(readers::curve_at(b, r, z, f, 3), cleared.short_term);
+    let regulating = curve_value(case_reader::curve_at(b, r, z, f, 2), cleared.regulating);
+    let short_term = curve_value(case_reader::curve_at(b, r, z, f, 3), cleared.short_term);
     sum(operating, sum(spinning, sum(regulating, short_term)))
 }
 

@@ -5,7 +5,7 @@ use Prim.Native.Nat.{ℕ}
 use borrow.Author.Tests.{not-true, not-false}
 use Rattle.market.specs.Bits.{spinningFlag, onLineSupplemental}
 use Rattle.market.specs.Case.{Resource as Figures}
-use Rattle.market.specs.Records.{power, perMinute, recordOf, stateOf, outputLimitsOf, rampsOf, startsOf}
+use Rattle.market.specs.Records.{power, perMinute, recordOf, stateOf, outputLimitsOf, rampsOf, otherPowersOf}
 use Rattle.market.specs.declared.Kw.{Kw}
 use Rattle.market.specs.declared.Resource.{Resource}
 use Rattle.market.specs.declared.State.{State}
@@ -57,21 +57,21 @@ module _ {r : Resource} (s : Figures) (e : r ≡ recordOf s) where
   unfolding recordOf rampsOf
   ramp-rate-is = ap (λ (x : Resource). x .ramps .rate) e
 
-  pub initial-is : r .starts .initial ≡ power (s .initial)
-  unfolding recordOf startsOf
-  initial-is = ap (λ (x : Resource). x .starts .initial) e
+  pub initial-is : r .«other_powers» .initial ≡ power (s .initial)
+  unfolding recordOf otherPowersOf
+  initial-is = ap (λ (x : Resource). x .«other_powers» .initial) e
 
-  pub off-line-response-is : r .starts .«off_line_response» ≡ power (s .offLineResponse)
-  unfolding recordOf startsOf
-  off-line-response-is = ap (λ (x : Resource). x .starts .«off_line_response») e
+  pub off-line-response-is : r .«other_powers» .«off_line_response» ≡ power (s .offLineResponse)
+  unfolding recordOf otherPowersOf
+  off-line-response-is = ap (λ (x : Resource). x .«other_powers» .«off_line_response») e
 
-  pub off-line-short-term-is : r .starts .«off_line_short_term» ≡ power (s .offLineShortTerm)
-  unfolding recordOf startsOf
-  off-line-short-term-is = ap (λ (x : Resource). x .starts .«off_line_short_term») e
+  pub off-line-short-term-is : r .«other_powers» .«off_line_short_term» ≡ power (s .offLineShortTerm)
+  unfolding recordOf otherPowersOf
+  off-line-short-term-is = ap (λ (x : Resource). x .«other_powers» .«off_line_short_term») e
 
-  pub self-schedule-is : r .starts .«self_schedule» ≡ power (s .selfSchedule)
-  unfolding recordOf startsOf
-  self-schedule-is = ap (λ (x : Resource). x .starts .«self_schedule») e
+  pub self-schedule-is : r .«other_powers» .«self_schedule» ≡ power (s .selfSchedule)
+  unfolding recordOf otherPowersOf
+  self-schedule-is = ap (λ (x : Resource). x .«other_powers» .«self_schedule») e
 
   -- and of the record's flags
   pub flags-are : (f : ℕ → Bool) {t : Bool} → t ≡ f (r .state .flags .0) → t ≡ f (s .flags)

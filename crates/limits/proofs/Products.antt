@@ -11,7 +11,7 @@ use Rattle.market.specs.UpperBounds.{RAMP, SHARE}
 use Rattle.market.specs.Records.{power, reserveTermsOf, termsOf}
 use Rattle.market.specs.declared.ReserveTerms.{ReserveTerms}
 use Rattle.market.specs.declared.Terms.{Terms}
-use Rattle.records.proofs.Ranged.{valid-terms}
+use Rattle.case_records.proofs.Ranged.{valid-terms}
 use Rattle.limits.specs.Together.{TermsRanged}
 
 module _ {t : ReserveTerms} (c : Case) (p : Reserve) (e : t ≡ reserveTermsOf c p) where

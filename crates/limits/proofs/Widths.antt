@@ -8,8 +8,8 @@ use Rattle.market.specs.Records.{power, offerStepOf, offerStepsOf, curveStepOf,
 use Rattle.market.specs.declared.Step.{Step}
 use Rattle.market.specs.declared.OfferSteps.{OfferSteps}
 use Rattle.market.specs.declared.CurveSteps.{CurveSteps}
-use Rattle.records.specs.Ranged.{offerStep, curveStep}
-use Rattle.records.proofs.Ranged.{offer-step-is, curve-step-is}
+use Rattle.case_records.specs.Ranged.{offerStep, curveStep}
+use Rattle.case_records.proofs.Ranged.{offer-step-is, curve-step-is}
 
 pub width-more : (w : ℕ → ℕ) (j : ℕ) → widthOf w j + w j ≡ widthOf w (j + 1)
 unfolding widthOf

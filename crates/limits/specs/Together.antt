@@ -5,7 +5,7 @@ use Rattle.market.specs.Limits.{MAX, MIN, HI, LO}
 use Rattle.market.specs.UpperBounds.{serviceBound, regulation, contingency, onLineShortTerm, offLineShortTerm}
 use Rattle.market.specs.Records.{power}
 use Rattle.market.specs.declared.Terms.{Terms}
-use Rattle.records.specs.Ranged.{RangedTerms}
+use Rattle.case_records.specs.Ranged.{RangedTerms}
 use Rattle.limits.specs.declared.ResourceLimits.{ResourceLimits}
 use Rattle.limits.specs.declared.ReserveBounds.{ReserveBounds}
 

@@ -13,7 +13,7 @@ ghost use Rattle.market.specs.Limits.{MAX, MIN, HI, LO, rampFloor};
 ghost use Rattle.market.specs.Rows.{isSpinning};
 ghost use Rattle.market.specs.UpperBounds.{RAMP, SHARE, onLineBound, serviceBound, upperBound, energy, regulation, contingency, onLineShortTerm, offLineShortTerm, Cleared};
 ghost use Rattle.market.specs.Records.{power, perMinute, stateOf, recordOf, reserveTermsOf, termsOf, offerStepsOf, curveStepsOf};
-ghost use Rattle.records.specs.Ranged.{UpTo, Ranged, RangedSteps, RangedTerms, RangedCurve};
+ghost use Rattle.case_records.specs.Ranged.{UpTo, Ranged, RangedSteps, RangedTerms, RangedCurve};
 ghost use Rattle.limits.specs.OffLine.{offLineContingency};
 ghost use Rattle.limits.specs.Together.{limitsOf, TermsRanged, reserveBoundsOf};
 ghost use Rattle.limits.specs.OnLine.{atLeast500, conventionalOnLine, intermittentOnLine, externalOnLine};
@@ -239,7 +239,7 @@ fn high_limit(on: bool, r: Resource) -> Kw
         return r.limits.economic_max;
     }
     let climb = ramped(r.ramps.up, Minutes(5));
-    plus(r.starts.initial, climb)
+    plus(r.other_powers.initial, climb)
 }
 
 // What five minutes of ramp leave of the initial energy.
@@ -248,7 +248,7 @@ fn ramp_floor(r: Resource) -> Kw
     ensures { λ m. ⌜ ((s : Figures) → r ≡ recordOf s → m ≡ power (rampFloor s)) ⌝ }
 {
     let fall = ramped(r.ramps.down, Minutes(5));
-    less(r.starts.initial, fall)
+    less(r.other_powers.initial, fall)
 }
 
 fn low_limit(on: bool, r: Resource) -> Kw
@@ -263,7 +263,7 @@ fn low_limit(on: bool, r: Resource) -> Kw
     if !flags.self_scheduled() {
         return floor;
     }
-    larger(floor, r.starts.self_schedule)
+    larger(floor, r.other_powers.self_schedule)
 }
 
 // MAX, MIN, HI and LO.
@@ -381,7 +381,7 @@ fn off_line_contingency_bound(terms: ReserveTerms, r: Resource) -> Kw
     let share = share_bound(terms);
     lesser(
         r.limits.economic_max,
-        lesser(r.starts.off_line_response, share),
+        lesser(r.other_powers.off_line_response, share),
     )
 }
 
@@ -426,7 +426,7 @@ fn off_line_short_term_bound(on: bool, r: Resource) -> Kw
     if !flags.off_line_short_term() {
         return Kw(0);
     }
-    lesser(r.limits.economic_max, r.starts.off_line_short_term)
+    lesser(r.limits.economic_max, r.other_powers.off_line_short_term)
 }
 
 // Of its four reserves.

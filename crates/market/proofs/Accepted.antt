@@ -76,10 +76,10 @@ delivered-is : (f : Finding) → deliveryOf f ≡ Delivered → f ≡ clear
 delivered-is clear e = cc
 delivered-is (holds r) e = cc
 
-module _ (b q : List ℕ) (paid least gap : ℤ) (e : outcome b q ≡ Accepted (valued paid least gap)) where
-  is : (firstOf (grounds b q) ≡ clear) × (valuation (caseOf b) (certificateOf q) ≡ valued paid least gap)
+module _ (b q : List ℕ) (paid lowerBound gap : ℤ) (e : outcome b q ≡ Accepted (valued paid lowerBound gap)) where
+  is : (firstOf (grounds b q) ≡ clear) × (valuation (caseOf b) (certificateOf q) ≡ valued paid lowerBound gap)
   unfolding outcome
-  is = accepted-is (valuation (caseOf b) (certificateOf q)) (valued paid least gap) (firstOf (grounds b q)) e
+  is = accepted-is (valuation (caseOf b) (certificateOf q)) (valued paid lowerBound gap) (firstOf (grounds b q)) e
 
   clear-both : AllClear (caseGrounds b) × AllClear (certificateGrounds (caseOf b) q (certificateOf q))
   clear-both = each-split (λ g. g ≡ clear) (caseGrounds b) (certificateGrounds (caseOf b) q (certificateOf q)) (none-holds (grounds b q) (is .0))
@@ -100,9 +100,9 @@ module _ (b q : List ℕ) (paid least gap : ℤ) (e : outcome b q ≡ Accepted (
   unfolding valuation
   paid-is = sym (ap (λ (w : Valuation). w .cost .0) (is .1))
 
-  least-is : least ≡ bound (caseOf b) (certificateOf q .price)
+  lower-bound-is : lowerBound ≡ bound (caseOf b) (certificateOf q .price)
   unfolding valuation
-  least-is = sym (ap (λ (w : Valuation). w .bound .0) (is .1))
+  lower-bound-is = sym (ap (λ (w : Valuation). w .bound .0) (is .1))
 
   gap-is : gap ≡ cost (caseOf b) (certificateOf q .amount) -ℤ bound (caseOf b) (certificateOf q .price)
   unfolding valuation
@@ -118,24 +118,24 @@ module _ (b q : List ℕ) (paid least gap : ℤ) (e : outcome b q ≡ Accepted (
       ∙ ap (λ (n : ℕ). listedCharges b q ++ drop n buffer) listed-count
 
 pub demand3 : Demand3
-demand3 b q paid least gap e =
+demand3 b q paid lowerBound gap e =
     record {
-      valid = clear-both b q paid least gap e .0;
-      bounded = v b q paid least gap e;
-      met = m b q paid least gap e;
-      paid-is = paid-is b q paid least gap e;
-      least-is = least-is b q paid least gap e;
-      gap-is = rw (paid-is b q paid least gap e, least-is b q paid least gap e) (gap-is b q paid least gap e);
+      valid = clear-both b q paid lowerBound gap e .0;
+      bounded = v b q paid lowerBound gap e;
+      met = m b q paid lowerBound gap e;
+      paid-is = paid-is b q paid lowerBound gap e;
+      lower-bound-is = lower-bound-is b q paid lowerBound gap e;
+      gap-is = rw (paid-is b q paid lowerBound gap e, lower-bound-is b q paid lowerBound gap e) (gap-is b q paid lowerBound gap e);
       no-cheaper = λ z vz mz.
-          rw (paid-is b q paid least gap e, gap-is b q paid least gap e, less-gap)
-          (bound-below (caseOf b) (certificateOf q .price) (s b q paid least gap e) z vz mz);
-      charge-count = listed-count b q paid least gap e;
+          rw (paid-is b q paid lowerBound gap e, gap-is b q paid lowerBound gap e, less-gap)
+          (bound-below (caseOf b) (certificateOf q .price) (s b q paid lowerBound gap e) z vz mz);
+      charge-count = listed-count b q paid lowerBound gap e;
       gap-is-charges =
-          gap-is b q paid least gap e
-          ∙ charges-sum (caseOf b) (certificateOf q .price) (s b q paid least gap e) (certificateOf q .amount) (v b q paid least gap e);
-      none-negative = charges-nonneg (caseOf b) (certificateOf q .price) (s b q paid least gap e) (certificateOf q .amount) (v b q paid least gap e) (m b q paid least gap e);
+          gap-is b q paid lowerBound gap e
+          ∙ charges-sum (caseOf b) (certificateOf q .price) (s b q paid lowerBound gap e) (certificateOf q .amount) (v b q paid lowerBound gap e);
+      none-negative = charges-nonneg (caseOf b) (certificateOf q .price) (s b q paid lowerBound gap e) (certificateOf q .amount) (v b q paid lowerBound gap e) (m b q paid lowerBound gap e);
       zero-gap =
-          rw (gap-is b q paid least gap e)
-          (zero-gap (caseOf b) (certificateOf q .price) (s b q paid least gap e) (certificateOf q .amount) (v b q paid least gap e) (m b q paid least gap e));
-      written = written b q paid least gap e;
+          rw (gap-is b q paid lowerBound gap e)
+          (zero-gap (caseOf b) (certificateOf q .price) (s b q paid lowerBound gap e) (certificateOf q .amount) (v b q paid lowerBound gap e) (m b q paid lowerBound gap e));
+      written = written b q paid lowerBound gap e;
     }

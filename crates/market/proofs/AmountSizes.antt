@@ -11,7 +11,7 @@ use Rattle.market.specs.Case.{Case, Curve, curves, widthOf, energySteps,
 use Rattle.market.specs.Availability.{onLine}
 use Rattle.market.specs.UpperBounds.{energy, reserveServices, services, Quantity, Cleared, Provided, quantities, Schedule, serviceBound, upperBound}
 use Rattle.market.specs.Rows.{Bounded}
-use Rattle.market.specs.Cost.{Priced, EnergyStep, Whole, CurveStep, pricedOf, curvePriced, priced, quantityOf, width, filled, part}
+use Rattle.market.specs.Cost.{Priced, EnergyStep, Whole, CurveStep, pricedOf, curvePriced, priced, quantityOf, pricedUpperBound, filled, part}
 use Rattle.market.proofs.Families.{QuantityOf, PricedOf, at-quantity, each-priced}
 use Rattle.market.specs.Sizes.{mostPower, mostCurveWidth, mostAmount}
 use Rattle.market.proofs.Ranges.{CaseRanges}
@@ -28,8 +28,8 @@ capacity c (EnergyStep i j) = c .resource i .stepWidth j
 capacity c (Whole i s) = serviceBound c (c .resource i) s
 capacity c (CurveStep k j) = c .curveWidth k j
 
-pub width-most : (c : Case) (p : Priced) → width c p ≤ capacity c p
-unfolding width capacity
+pub width-most : (c : Case) (p : Priced) → pricedUpperBound c p ≤ capacity c p
+unfolding pricedUpperBound capacity
 width-most c (EnergyStep i j) = most-if (onLine (c .resource i)) (omega arith) (omega arith)
 width-most c (Whole i s) = omega arith
 width-most c (CurveStep k j) = omega arith

@@ -9,7 +9,7 @@ use Rattle.market.specs.Case.{Case}
 use Rattle.market.specs.UpperBounds.{Quantity}
 use Rattle.market.specs.Rows.{Row, rows, coefficient, rightSide}
 use Rattle.market.specs.Certificate.{Prices, highestPrice}
-use Rattle.market.specs.Cost.{Priced, priced, quantityOf, width}
+use Rattle.market.specs.Cost.{Priced, priced, quantityOf, pricedUpperBound}
 use Rattle.market.specs.Bound.{rowValue, netPrice, lowest, bound}
 use Rattle.market.proofs.Families.{RowOf, QuantityOf, PricedOf, quantity-of, each-row}
 use Rattle.market.proofs.LargestCase.{rows-most, quantities-most}
@@ -54,7 +54,7 @@ module _ (c : Case) (h : CaseRanges c) (y : Prices) (p : PriceRanges c y) where
       )
 
   -- and what is priced
-  product-size : (q : Priced) → PricedOf c q → Size (netPrice c y q *ℤ pos (width c q)) (mostNet (quantityOf q) * capacity c q)
+  product-size : (q : Priced) → PricedOf c q → Size (netPrice c y q *ℤ pos (pricedUpperBound c q)) (mostNet (quantityOf q) * capacity c q)
   product-size q m = size-mul (net-size c y h p q m) (size-nat (width-most c q))
 
   pub lowest-size : (q : Priced) → PricedOf c q → Size (lowest c y q) (mostNet (quantityOf q) * capacity c q)
@@ -70,8 +70,8 @@ module _ (c : Case) (h : CaseRanges c) (y : Prices) (p : PriceRanges c y) where
         products-figure c,
       )
 
-  pub products-most : sizeOf (λ q. netPrice c y q *ℤ pos (width c q)) (priced c) ≤ mostProducts
-  products-most = net-rated (λ q. netPrice c y q *ℤ pos (width c q)) product-size
+  pub products-most : sizeOf (λ q. netPrice c y q *ℤ pos (pricedUpperBound c q)) (priced c) ≤ mostProducts
+  products-most = net-rated (λ q. netPrice c y q *ℤ pos (pricedUpperBound c q)) product-size
 
   pub lowest-most : sizeOf (lowest c y) (priced c) ≤ mostProducts
   lowest-most = net-rated (lowest c y) lowest-size

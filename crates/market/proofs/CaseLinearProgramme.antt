@@ -18,7 +18,7 @@ use Rattle.market.specs.Availability.{onLine}
 use Rattle.market.specs.UpperBounds.{Service, energy, reserveServices, Cleared, Provided, Schedule, serviceBound, upperBound}
 use Rattle.market.specs.Rows.{Row, rows, Sense, equal, atLeast, sense, coefficient, rightSide, leftSide, slack, Meets, Bounded, Met}
 use Rattle.market.specs.Certificate.{Prices}
-use Rattle.market.specs.Cost.{Priced, EnergyStep, Whole, CurveStep, pricedOf, curvePriced, priced, quantityOf, offer, width, part, cost}
+use Rattle.market.specs.Cost.{Priced, EnergyStep, Whole, CurveStep, pricedOf, curvePriced, priced, quantityOf, offer, pricedUpperBound, part, cost}
 use Rattle.market.specs.Bound.{rowValue, netPrice, lowest, bound}
 use Rattle.market.specs.Charges.{rowCharge, pricedCharge, charges}
 use Rattle.market.proofs.QuantityParts.{ResourceBounded, by-kind, parts-sum}
@@ -32,7 +32,7 @@ programme c =
       coefficient = λ r p. coefficient c r (quantityOf p);
       rightSide = rightSide c;
       price = λ p. pos 1000 *ℤ offer c p;
-      upperBound = λ p. pos (width c p);
+      upperBound = λ p. pos (pricedUpperBound c p);
     }
 
 abbrev pub parts : Case → Schedule → Priced → ℤ
@@ -76,18 +76,18 @@ module _ (c : Case) (z : Schedule) where
   between {a} {b} h = (record { le = le→leb 0 a (omega arith) }, record { le = le→leb a b h })
 
   whole-fits : (i : ℕ) (s : Service) → z (Provided i s) ≤ serviceBound c (c .resource i) s → PartFits (Whole i s)
-  unfolding part width
+  unfolding part pricedUpperBound
   whole-fits i s h = between h
 
   resource-fits : (i : ℕ) → ResourceBounded c z i → Each PartFits (pricedOf i)
-  unfolding part width serviceBound
+  unfolding part pricedUpperBound serviceBound
   resource-fits i u =
       each-join PartFits (map (EnergyStep i) (upto energySteps)) (map (Whole i) reserveServices)
       (each-map PartFits (EnergyStep i) (upto energySteps) (each-any (λ j. PartFits (EnergyStep i j)) (upto energySteps) (λ j. between (step-below (onLine (c .resource i)) (c .resource i .stepWidth) energySteps (z (Provided i energy)) j (u .0)))))
       (each-map PartFits (Whole i) reserveServices (each-imp (λ s. whole-fits i s) reserveServices (u .1)))
 
   curve-fits : (k : Curve) → Each PartFits (curvePriced k)
-  unfolding part width
+  unfolding part pricedUpperBound
   curve-fits k =
       each-map PartFits (CurveStep k) (upto curveSteps) (each-any (λ j. PartFits (CurveStep k j)) (upto curveSteps) (λ j. between (filled-below (c .curveWidth k) (z (Cleared k)) j)))
 

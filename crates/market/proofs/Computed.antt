@@ -9,12 +9,12 @@ use Rattle.market.specs.CaseCheck.{lengthRight, versionRight, countsRigh
 use Rattle.market.specs.Availability.{onLine}
 use Rattle.market.specs.Limits.{MAX, MIN, HI, LO}
 use Rattle.market.specs.UpperBounds.{quantities, RAMP, SHARE, onLineBound, serviceBound, upperBound}
-use Rattle.market.specs.Rows.{rows, none, one, less, entries, spins, inReserve, inLimit, coefficient, rightSide, leftSide, slack}
+use Rattle.market.specs.Rows.{rows, none, one, minusOne, entries, spins, inReserve, inLimit, coefficient, rightSide, leftSide, slack}
 use Rattle.market.specs.Certificate.{amountAt, priceAt, certificateOf}
-use Rattle.market.specs.Cost.{priced, quantityOf, servicePrice, offer, width, filled, part, cost}
+use Rattle.market.specs.Cost.{priced, quantityOf, servicePrice, offer, pricedUpperBound, filled, part, cost}
 use Rattle.market.specs.Bound.{rowValue, netPrice, lowest, bound}
 use Rattle.market.specs.Charges.{rowCharge, pricedCharge, charges}
-use Rattle.market.specs.Prices.{LMP, supplementalPrice, spinningPrice, regulatingPrice, shortTermPrice, priceList}
+use Rattle.market.specs.Prices.{LMP, zoneSupplementalPrice, zoneSpinningPrice, zoneRegulatingPrice, zoneShortTermPrice, priceList}
 use Rattle.market.specs.Refusals.{firstFailing, firstOf}
 use Rattle.market.specs.Outcome.{caseGrounds, caseAnswer, sameCounts, certificateGrounds, valued, valuation, outcome, priceGrounds, chargeGrounds, priceAnswer, chargeAnswer}
 use Rattle.market.specs.Numbers.{fieldAt, fieldBytes, numbersAt, bytesOf, numbersFit, times, caseFields, certificateFields, fileOf, numbersOf, certificateFileGrounds, readCaseGrounds, readCertificateGrounds, readCase, readCertificate, countsInRange, fieldsFor, fileFor, listGrounds, writeCaseGrounds, writeCertificateGrounds, writeCase, writeCertificate}
@@ -23,18 +23,18 @@ use Rattle.market.specs.Interval.{K, Q}
 use Rattle.market.specs.Worked.{intervals, refusals, orders, same, AsSaid}
 
 pub worked : AsSaid intervals
-unfolding minℤ sumOf upto all across widthOf caseOf resourceAt lengthRight versionRight countsRight caseSizeRight reserveInRange resourceInRange flowgateInRange fieldsInRange stepsFollow stepsRight energyStepsRight stepsRule pairsOrdered limitsOrdered onLine MAX MIN HI LO quantities RAMP SHARE onLineBound serviceBound upperBound rows none one less entries spins inReserve inLimit coefficient rightSide leftSide slack amountAt priceAt certificateOf priced quantityOf servicePrice offer width filled part cost rowValue netPrice lowest bound LMP supplementalPrice spinningPrice regulatingPrice shortTermPrice firstFailing firstOf caseGrounds sameCounts certificateGrounds valuation outcome digitsOn decimal spaced resourceLine zoneLine refusalLine report printed same
+unfolding minℤ sumOf upto all across widthOf caseOf resourceAt lengthRight versionRight countsRight caseSizeRight reserveInRange resourceInRange flowgateInRange fieldsInRange stepsFollow stepsRight energyStepsRight stepsRule pairsOrdered limitsOrdered onLine MAX MIN HI LO quantities RAMP SHARE onLineBound serviceBound upperBound rows none one minusOne entries spins inReserve inLimit coefficient rightSide leftSide slack amountAt priceAt certificateOf priced quantityOf servicePrice offer pricedUpperBound filled part cost rowValue netPrice lowest bound LMP zoneSupplementalPrice zoneSpinningPrice zoneRegulatingPrice zoneShortTermPrice firstFailing firstOf caseGrounds sameCounts certificateGrounds valuation outcome digitsOn decimal spaced resourceLine zoneLine refusalLine report printed same
 worked = tt
 
 pub each-refusal : AsSaid refusals
-unfolding minℤ sumOf totalOf upto all across widthOf caseOf resourceAt lengthRight versionRight countsRight caseSizeRight reserveInRange resourceInRange flowgateInRange fieldsInRange stepsFollow stepsRight energyStepsRight stepsRule pairsOrdered limitsOrdered onLine MAX MIN HI LO quantities RAMP SHARE onLineBound serviceBound upperBound rows none one less entries spins inReserve inLimit coefficient rightSide leftSide slack amountAt priceAt certificateOf priced quantityOf servicePrice offer width filled part cost rowValue netPrice lowest bound LMP supplementalPrice spinningPrice regulatingPrice shortTermPrice firstFailing firstOf caseGrounds caseAnswer sameCounts certificateGrounds valuation outcome priceGrounds chargeGrounds priceAnswer chargeAnswer fieldAt fieldBytes numbersAt bytesOf numbersFit times caseFields certificateFields fileOf numbersOf certificateFileGrounds readCaseGrounds readCertificateGrounds readCase readCertificate countsInRange fieldsFor fileFor listGrounds writeCaseGrounds writeCertificateGrounds writeCase writeCertificate digitsOn decimal spaced resourceLine zoneLine refusalLine report printed same
+unfolding minℤ sumOf totalOf upto all across widthOf caseOf resourceAt lengthRight versionRight countsRight caseSizeRight reserveInRange resourceInRange flowgateInRange fieldsInRange stepsFollow stepsRight energyStepsRight stepsRule pairsOrdered limitsOrdered onLine MAX MIN HI LO quantities RAMP SHARE onLineBound serviceBound upperBound rows none one minusOne entries spins inReserve inLimit coefficient rightSide leftSide slack amountAt priceAt certificateOf priced quantityOf servicePrice offer pricedUpperBound filled part cost rowValue netPrice lowest bound LMP zoneSupplementalPrice zoneSpinningPrice zoneRegulatingPrice zoneShortTermPrice firstFailing firstOf caseGrounds caseAnswer sameCounts certificateGrounds valuation outcome priceGrounds chargeGrounds priceAnswer chargeAnswer fieldAt fieldBytes numbersAt bytesOf numbersFit times caseFields certificateFields fileOf numbersOf certificateFileGrounds readCaseGrounds readCertificateGrounds readCase readCertificate countsInRange fieldsFor fileFor listGrounds writeCaseGrounds writeCertificateGrounds writeCase writeCertificate digitsOn decimal spaced resourceLine zoneLine refusalLine report printed same
 each-refusal = tt
 
 pub in-order : AsSaid orders
-unfolding minℤ sumOf upto all across widthOf caseOf resourceAt onLine MAX MIN HI LO quantities RAMP SHARE onLineBound serviceBound rows none one less entries spins inReserve inLimit coefficient rightSide leftSide slack amountAt priceAt certificateOf priced quantityOf servicePrice offer width filled part rowValue netPrice lowest rowCharge pricedCharge charges LMP supplementalPrice spinningPrice regulatingPrice shortTermPrice priceList same
+unfolding minℤ sumOf upto all across widthOf caseOf resourceAt onLine MAX MIN HI LO quantities RAMP SHARE onLineBound serviceBound rows none one minusOne entries spins inReserve inLimit coefficient rightSide leftSide slack amountAt priceAt certificateOf priced quantityOf servicePrice offer pricedUpperBound filled part rowValue netPrice lowest rowCharge pricedCharge charges LMP zoneSupplementalPrice zoneSpinningPrice zoneRegulatingPrice zoneShortTermPrice priceList same
 in-order = tt
 
 -- so what is shown of accepted certificates is not shown of none
 pub K-accepted : outcome K Q ≡ Accepted (valued (pos 140000000000) (pos 140000000000) (pos 0))
-unfolding minℤ sumOf upto all across widthOf caseOf resourceAt lengthRight versionRight countsRight caseSizeRight reserveInRange resourceInRange flowgateInRange fieldsInRange stepsFollow stepsRight energyStepsRight stepsRule pairsOrdered limitsOrdered onLine MAX MIN HI LO quantities RAMP SHARE onLineBound serviceBound upperBound rows none one less entries spins inReserve inLimit coefficient rightSide leftSide slack amountAt priceAt certificateOf priced quantityOf servicePrice offer width filled part cost rowValue netPrice lowest bound firstFailing firstOf caseGrounds sameCounts certificateGrounds valuation outcome
+unfolding minℤ sumOf upto all across widthOf caseOf resourceAt lengthRight versionRight countsRight caseSizeRight reserveInRange resourceInRange flowgateInRange fieldsInRange stepsFollow stepsRight energyStepsRight stepsRule pairsOrdered limitsOrdered onLine MAX MIN HI LO quantities RAMP SHARE onLineBound serviceBound upperBound rows none one minusOne entries spins inReserve inLimit coefficient rightSide leftSide slack amountAt priceAt certificateOf priced quantityOf servicePrice offer pricedUpperBound filled part cost rowValue netPrice lowest bound firstFailing firstOf caseGrounds sameCounts certificateGrounds valuation outcome
 K-accepted = refl

@@ -8,7 +8,7 @@ use Rattle.arith.specs.Sums.{sumOf}
 use Rattle.arith.proofs.Linear.{sorted, count}
 use Rattle.market.specs.Case.{Resource, Curve, operating, regulatingPlusSpinning, regulating, shortTerm, curves, curveNumber}
 use Rattle.market.specs.UpperBounds.{Service, energy, regulation, contingency, onLineShortTerm, offLineShortTerm, services}
-use Rattle.market.specs.Rows.{Limit, maxWithReserve, maxWithShortTerm, minimum, high, low, limits, none, one, less, entries, spins, inReserve, inLimit, isSpinning}
+use Rattle.market.specs.Rows.{Limit, maxWithReserve, maxWithShortTerm, minimum, high, low, limits, none, one, minusOne, entries, spins, inReserve, inLimit, isSpinning}
 use Rattle.market.specs.InWords.{reserveGiven}
 
 pub none-* : (a : ℤ) → none *ℤ a ≡ pos 0
@@ -19,9 +19,9 @@ pub one-* : (a : ℤ) → one *ℤ a ≡ a
 unfolding one
 one-* a = simp sorted (simp count (omega arith))
 
-less-* : (a : ℤ) → less *ℤ a ≡ negℤ a
-unfolding less
-less-* a = simp sorted (simp count (omega arith))
+minus-one-* : (a : ℤ) → minusOne *ℤ a ≡ negℤ a
+unfolding minusOne
+minus-one-* a = simp sorted (simp count (omega arith))
 
 pub *-none : (a : ℤ) → a *ℤ none ≡ pos 0
 unfolding none
@@ -30,10 +30,10 @@ unfolding none
 pub *-one : (a : ℤ) → a *ℤ one ≡ a
 *-one a = *ℤ-comm a one ∙ one-* a
 
-*-less : (a : ℤ) → a *ℤ less ≡ negℤ a
-*-less a = *ℤ-comm a less ∙ less-* a
+*-minus-one : (a : ℤ) → a *ℤ minusOne ≡ negℤ a
+*-minus-one a = *ℤ-comm a minusOne ∙ minus-one-* a
 
-ruleset units = (none-*, one-*, less-*, *-none, *-one, *-less, +ℤ-idl, +ℤ-idr)
+ruleset units = (none-*, one-*, minus-one-*, *-none, *-one, *-minus-one, +ℤ-idl, +ℤ-idr)
 
 if-* : (t : Bool) (a : ℤ) → cond t one none *ℤ a ≡ cond t a (pos 0)
 if-* true a = one-* a
@@ -72,14 +72,14 @@ limit-term high v = simp units
 limit-term low v = simp units
 
 -- ---- over the cleared quantities: each stands in its own market row
-pub cleared-term : (v : Curve → ℤ) (k : Curve) → sumOf (λ l. cond (eqb (curveNumber k) (curveNumber l)) less none *ℤ v l) curves ≡ negℤ (v k)
+pub cleared-term : (v : Curve → ℤ) (k : Curve) → sumOf (λ l. cond (eqb (curveNumber k) (curveNumber l)) minusOne none *ℤ v l) curves ≡ negℤ (v k)
 unfolding sumOf
 cleared-term v operating = simp units
 cleared-term v regulatingPlusSpinning = simp units
 cleared-term v regulating = simp units
 cleared-term v shortTerm = simp units
 
-pub cleared-price : (y : Curve → ℤ) (k : Curve) → sumOf (λ l. y l *ℤ cond (eqb (curveNumber l) (curveNumber k)) less none) curves ≡ negℤ (y k)
+pub cleared-price : (y : Curve → ℤ) (k : Curve) → sumOf (λ l. y l *ℤ cond (eqb (curveNumber l) (curveNumber k)) minusOne none) curves ≡ negℤ (y k)
 unfolding sumOf
 cleared-price y operating = simp units
 cleared-price y regulatingPlusSpinning = simp units

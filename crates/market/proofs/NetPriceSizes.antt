@@ -13,7 +13,7 @@ use Rattle.market.specs.Rows.{Balance, Market, Zone, Flowgate, Limited, 
 use Rattle.market.specs.Certificate.{Prices}
 use Rattle.market.specs.Cost.{Priced, EnergyStep, Whole, CurveStep, quantityOf, servicePrice, offer}
 use Rattle.market.specs.Bound.{netPrice}
-use Rattle.market.specs.Prices.{LMP, bothRows, regulatingPrice, spinningPrice, supplementalPrice, shortTermPrice}
+use Rattle.market.specs.Prices.{LMP, bothRows, zoneRegulatingPrice, zoneSpinningPrice, zoneSupplementalPrice, zoneShortTermPrice}
 use Rattle.market.specs.InWords.{Placed, NetPricesInWords}
 use Rattle.market.proofs.NetPrices.{net-prices-in-words}
 use Rattle.market.proofs.Families.{PricedOf, PricedWhole}
@@ -41,20 +41,20 @@ module _ (c : Case) (y : Prices) (h : CaseRanges c) (p : PriceRanges c y) where
     both-size : (k : Curve) → Size (bothRows y z k) (2 * mostPrice)
     both-size k = size-add (p .price (Market k) tt) (p .price (Zone z k) m)
 
-    pub supplemental-size : Size (supplementalPrice y z) mostSupplementalPrice
-    unfolding supplementalPrice
+    pub supplemental-size : Size (zoneSupplementalPrice y z) mostSupplementalPrice
+    unfolding zoneSupplementalPrice
     supplemental-size = both-size operating
 
-    pub spinning-size : Size (spinningPrice y z) mostSpinningPrice
-    unfolding spinningPrice
+    pub spinning-size : Size (zoneSpinningPrice y z) mostSpinningPrice
+    unfolding zoneSpinningPrice
     spinning-size = size-add (both-size operating) (both-size regulatingPlusSpinning)
 
-    pub regulating-size : Size (regulatingPrice y z) mostRegulatingPrice
-    unfolding regulatingPrice
+    pub regulating-size : Size (zoneRegulatingPrice y z) mostRegulatingPrice
+    unfolding zoneRegulatingPrice
     regulating-size = size-add (size-add (both-size operating) (both-size regulatingPlusSpinning)) (both-size regulating)
 
-    pub short-term-size : Size (shortTermPrice y z) mostShortTermPrice
-    unfolding shortTermPrice
+    pub short-term-size : Size (zoneShortTermPrice y z) mostShortTermPrice
+    unfolding zoneShortTermPrice
     short-term-size = both-size shortTerm
 
   -- an offer in thousandths

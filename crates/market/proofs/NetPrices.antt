@@ -15,7 +15,7 @@ use Rattle.market.specs.Rows.{Balance, Market, Zone, Flowgate, Limited, 
 use Rattle.market.specs.Certificate.{Prices}
 use Rattle.market.specs.Cost.{EnergyStep, Whole, CurveStep, quantityOf, servicePrice, offer}
 use Rattle.market.specs.Bound.{rowValue, netPrice}
-use Rattle.market.specs.Prices.{LMP, regulatingPrice, spinningPrice, supplementalPrice, shortTermPrice}
+use Rattle.market.specs.Prices.{LMP, zoneRegulatingPrice, zoneSpinningPrice, zoneSupplementalPrice, zoneShortTermPrice}
 use Rattle.market.specs.InWords.{limitPrices, Placed, NetPricesInWords}
 use Rattle.market.proofs.TakenByRows.{rows-sum, taken}
 use Rattle.market.proofs.Entries.{*-one, *-none, cleared-price}
@@ -43,8 +43,8 @@ module _ (c : Case) (y : Prices) (i z : ℕ) (at : Placed c i z) where
   reserves-sum m z l = rw (*-none (y Balance), no-flow (λ f. y (Flowgate f)) (c .flowgates)) (simp sorted (simp count (omega arith)))
 
   regulation-net : netPrice c y (Whole i regulation)
-      ≡ pos 1000 *ℤ pos (c .resource i .regulatingPrice) -ℤ regulatingPrice y z +ℤ (y (Limited i maxWithReserve) +ℤ y (Limited i minimum))
-  unfolding netPrice quantityOf offer servicePrice entries regulatingPrice
+      ≡ pos 1000 *ℤ pos (c .resource i .regulatingPrice) -ℤ zoneRegulatingPrice y z +ℤ (y (Limited i maxWithReserve) +ℤ y (Limited i minimum))
+  unfolding netPrice quantityOf offer servicePrice entries zoneRegulatingPrice
   regulation-net =
       rw (taken c y i z at regulation, reserves-sum (y (Market operating) +ℤ y (Market regulatingPlusSpinning) +ℤ y (Market regulating)) (y (Zone z operating) +ℤ y (Zone z regulatingPlusSpinning) +ℤ y (Zone z regulating)) (negℤ (y (Limited i maxWithReserve) +ℤ y (Limited i minimum))))
       (ring (pos 1000 *ℤ pos (c .resource i .regulatingPrice)) (y (Market operating)) (y (Market regulatingPlusSpinning)) (y (Market regulating)) (y (Zone z operating)) (y (Zone z regulatingPlusSpinning)) (y (Zone z regulating)) (y (Limited i maxWithReserve) +ℤ y (Limited i minimum)))
@@ -53,8 +53,8 @@ module _ (c : Case) (y : Prices) (i z : ℕ) (at : Placed c i z) where
       ring p a b d e f g l = simp sorted (simp count (omega arith))
 
   contingency-net : netPrice c y (Whole i contingency)
-      ≡ pos 1000 *ℤ pos (c .resource i .contingencyPrice) -ℤ cond (isSpinning (c .resource i)) (spinningPrice y z) (supplementalPrice y z) +ℤ y (Limited i maxWithReserve)
-  unfolding netPrice quantityOf offer servicePrice entries spinningPrice supplementalPrice
+      ≡ pos 1000 *ℤ pos (c .resource i .contingencyPrice) -ℤ cond (isSpinning (c .resource i)) (zoneSpinningPrice y z) (zoneSupplementalPrice y z) +ℤ y (Limited i maxWithReserve)
+  unfolding netPrice quantityOf offer servicePrice entries zoneSpinningPrice zoneSupplementalPrice
   contingency-net =
       rw (taken c y i z at contingency, reserves-sum (y (Market operating) +ℤ cond (isSpinning (c .resource i)) (y (Market regulatingPlusSpinning)) (pos 0)) (y (Zone z operating) +ℤ cond (isSpinning (c .resource i)) (y (Zone z regulatingPlusSpinning)) (pos 0)) (negℤ (y (Limited i maxWithReserve))))
       (by-spinning (isSpinning (c .resource i)) (pos 1000 *ℤ pos (c .resource i .contingencyPrice)) (y (Market operating)) (y (Market regulatingPlusSpinning)) (y (Zone z operating)) (y (Zone z regulatingPlusSpinning)) (y (Limited i maxWithReserve)))
@@ -63,8 +63,8 @@ module _ (c : Case) (y : Prices) (i z : ℕ) (at : Placed c i z) where
       by-spinning true p a b e f l = simp sorted (simp count (omega arith))
       by-spinning false p a b e f l = simp sorted (simp count (omega arith))
 
-  on-line-net : netPrice c y (Whole i onLineShortTerm) ≡ y (Limited i maxWithShortTerm) -ℤ shortTermPrice y z
-  unfolding netPrice quantityOf offer servicePrice entries shortTermPrice
+  on-line-net : netPrice c y (Whole i onLineShortTerm) ≡ y (Limited i maxWithShortTerm) -ℤ zoneShortTermPrice y z
+  unfolding netPrice quantityOf offer servicePrice entries zoneShortTermPrice
   on-line-net =
       rw (taken c y i z at onLineShortTerm, reserves-sum (y (Market shortTerm)) (y (Zone z shortTerm)) (negℤ (y (Limited i maxWithShortTerm))))
       (ring (y (Market shortTerm)) (y (Zone z shortTerm)) (y (Limited i maxWithShortTerm)))
@@ -72,8 +72,8 @@ module _ (c : Case) (y : Prices) (i z : ℕ) (at : Placed c i z) where
       ring : (a b l : ℤ) → pos 0 -ℤ (a +ℤ b +ℤ negℤ l) ≡ l -ℤ (a +ℤ b)
       ring a b l = simp sorted (simp count (omega arith))
 
-  off-line-net : netPrice c y (Whole i offLineShortTerm) ≡ pos 1000 *ℤ pos (c .resource i .offLineShortTermPrice) -ℤ shortTermPrice y z
-  unfolding netPrice quantityOf offer servicePrice entries shortTermPrice
+  off-line-net : netPrice c y (Whole i offLineShortTerm) ≡ pos 1000 *ℤ pos (c .resource i .offLineShortTermPrice) -ℤ zoneShortTermPrice y z
+  unfolding netPrice quantityOf offer servicePrice entries zoneShortTermPrice
   off-line-net =
       rw (taken c y i z at offLineShortTerm, reserves-sum (y (Market shortTerm)) (y (Zone z shortTerm)) (pos 0))
       (ring (pos 1000 *ℤ pos (c .resource i .offLineShortTermPrice)) (y (Market shortTerm)) (y (Zone z shortTerm)))

@@ -7,7 +7,7 @@ use lib.IntN.{ℤ}
 use Rattle.arith.proofs.Magnitudes.{Size, size-nat, size-neg, size-mul}
 use Rattle.market.specs.Case.{Case, Resource, Curve, operating, regulatingPlusSpinning, regulating, shortTerm, curveNumber}
 use Rattle.market.specs.UpperBounds.{Service, energy, regulation, contingency, onLineShortTerm, offLineShortTerm, Quantity, Cleared, Provided}
-use Rattle.market.specs.Rows.{Row, Balance, Market, Zone, Flowgate, Limited, Limit, maxWithReserve, maxWithShortTerm, minimum, high, low, none, one, less, entries, spins, inReserve, inLimit, coefficient, rightSide, isSpinning}
+use Rattle.market.specs.Rows.{Row, Balance, Market, Zone, Flowgate, Limited, Limit, maxWithReserve, maxWithShortTerm, minimum, high, low, none, one, minusOne, entries, spins, inReserve, inLimit, coefficient, rightSide, isSpinning}
 use Rattle.market.proofs.Families.{RowOf, QuantityOf}
 use Rattle.market.specs.Sizes.{mostLimit, mostCoefficient, mostRight}
 use Rattle.market.proofs.Ranges.{CaseRanges}
@@ -22,9 +22,9 @@ one-size : Size one 1
 unfolding one
 one-size = size-nat (omega arith)
 
-less-size : Size less 1
-unfolding less
-less-size = record { le = omega arith }
+minus-one-size : Size minusOne 1
+unfolding minusOne
+minus-one-size = record { le = omega arith }
 
 entries-size : {e g c s o : ℤ} {m : ℕ} → Size e m → Size g m → Size c m → Size s m → Size o m → (v : Service) → Size (entries e g c s o v) m
 unfolding entries
@@ -47,10 +47,10 @@ in-reserve-size r shortTerm s = entries-size none-size none-size none-size one-s
 
 in-limit-size : (l : Limit) (s : Service) → Size (inLimit l s) 1
 unfolding inLimit
-in-limit-size maxWithReserve s = entries-size less-size less-size less-size none-size none-size s
-in-limit-size maxWithShortTerm s = entries-size less-size none-size none-size less-size none-size s
-in-limit-size minimum s = entries-size one-size less-size none-size none-size none-size s
-in-limit-size high s = entries-size less-size none-size none-size none-size none-size s
+in-limit-size maxWithReserve s = entries-size minus-one-size minus-one-size minus-one-size none-size none-size s
+in-limit-size maxWithShortTerm s = entries-size minus-one-size none-size none-size minus-one-size none-size s
+in-limit-size minimum s = entries-size one-size minus-one-size none-size none-size none-size s
+in-limit-size high s = entries-size minus-one-size none-size none-size none-size none-size s
 in-limit-size low s = entries-size one-size none-size none-size none-size none-size s
 
 -- ---- rows
@@ -60,7 +60,7 @@ module _ (c : Case) (h : CaseRanges c) where
   unfolding coefficient
   coefficient-size Balance (Cleared l) m n = none-size
   coefficient-size Balance (Provided i s) m n = entries-size one-size none-size none-size none-size none-size s
-  coefficient-size (Market k) (Cleared l) m n = size-if (eqb (curveNumber k) (curveNumber l)) less-size none-size
+  coefficient-size (Market k) (Cleared l) m n = size-if (eqb (curveNumber k) (curveNumber l)) minus-one-size none-size
   coefficient-size (Market k) (Provided i s) m n = in-reserve-size (c .resource i) k s
   coefficient-size (Zone z k) (Cleared l) m n = none-size
   coefficient-size (Zone z k) (Provided i s) m n = size-if (eqb (c .resource i .zone) (suc z)) (in-reserve-size (c .resource i) k s) none-size

@@ -10,7 +10,7 @@ use lib.Signed.{_≤ℤ_}
 use Rattle.arith.specs.Sums.{upto, all}
 use Rattle.arith.proofs.Order.{≤ℤ-trans}
 use Rattle.market.specs.Case.{Case, Resource, Curve, widthOf}
-use Rattle.market.specs.CaseCheck.{stepsFollow, stepsRight, rising, falling, energyStepsRight, stepsRule}
+use Rattle.market.specs.CaseCheck.{stepsFollow, stepsRight, neverFalls, neverRises, energyStepsRight, stepsRule}
 use Rattle.market.specs.CheckInWords.{StepsInOrder, NeverFall, NeverRise, StepsKept}
 use Rattle.market.proofs.Tests.{Decides, reworded, both, le-test, lt-test, leℤ-test, zero-test, below-test, curves-test}
 
@@ -77,13 +77,13 @@ module _ {May : ℤ → ℤ → Type 0} (trans : (a b e : ℤ) → May a b → M
       (λ h. in-order (λ j l. h .1 j (omega arith)) (h .0 .0))
       (λ s. (((λ e. s .empty-free 0 (omega arith) e), (λ l. (omega arith, tt))), (λ j l. neighbours s j (omega arith))))
 
-curve-test : (c : Case) (k : Curve) → Decides (stepsRight falling (c .curveWidth k) (λ j. pos (c .curvePrice k j)) 4) (StepsInOrder NeverRise (c .curveWidth k) (λ j. pos (c .curvePrice k j)) 4)
-curve-test c k = steps-test {May = NeverRise} (λ a b e h g. ≤ℤ-trans g h) (c .curveWidth k) (λ j. pos (c .curvePrice k j)) 3 {may = falling} (λ a b. leℤ-test b a)
+curve-test : (c : Case) (k : Curve) → Decides (stepsRight neverRises (c .curveWidth k) (λ j. pos (c .curvePrice k j)) 4) (StepsInOrder NeverRise (c .curveWidth k) (λ j. pos (c .curvePrice k j)) 4)
+curve-test c k = steps-test {May = NeverRise} (λ a b e h g. ≤ℤ-trans g h) (c .curveWidth k) (λ j. pos (c .curvePrice k j)) 3 {may = neverRises} (λ a b. leℤ-test b a)
 
 energy-test : (r : Resource) → Decides (energyStepsRight r) (StepsInOrder NeverFall (r .stepWidth) (r .stepPrice) 10 × (widthOf (r .stepWidth) 10 ≤ 2000000))
 unfolding energyStepsRight
 energy-test r =
-    both (steps-test {May = NeverFall} (λ a b e h g. ≤ℤ-trans h g) (r .stepWidth) (r .stepPrice) 9 {may = rising} leℤ-test) (le-test (widthOf (r .stepWidth) 10) 2000000)
+    both (steps-test {May = NeverFall} (λ a b e h g. ≤ℤ-trans h g) (r .stepWidth) (r .stepPrice) 9 {may = neverFalls} leℤ-test) (le-test (widthOf (r .stepWidth) 10) 2000000)
 
 pub steps-rule-test : (c : Case) → Decides (stepsRule c) (StepsKept c)
 unfolding stepsRule

@@ -98,19 +98,19 @@ stepsRight may w p n =
     && all (λ j. stepsFollow may (w j) (p j) (w (j + 1)) (p (j + 1))) (upto (n - 1))
 
 -- energy prices never fall
-abbrev pub rising : ℤ → ℤ → Bool
-rising p p′ = leZ p p′
+abbrev pub neverFalls : ℤ → ℤ → Bool
+neverFalls p p′ = leZ p p′
 
 -- curve prices never rise
-abbrev pub falling : ℤ → ℤ → Bool
-falling p p′ = leZ p′ p
+abbrev pub neverRises : ℤ → ℤ → Bool
+neverRises p p′ = leZ p′ p
 
 unfoldable pub energyStepsRight : Resource → Bool
-energyStepsRight r = stepsRight rising (r .stepWidth) (r .stepPrice) energySteps && leb (widthOf (r .stepWidth) energySteps) 2000000
+energyStepsRight r = stepsRight neverFalls (r .stepWidth) (r .stepPrice) energySteps && leb (widthOf (r .stepWidth) energySteps) 2000000
 
 unfoldable pub stepsRule : Case → Bool
 stepsRule c =
-    all (λ k. stepsRight falling (c .curveWidth k) (λ j. pos (c .curvePrice k j)) curveSteps) curves
+    all (λ k. stepsRight neverRises (c .curveWidth k) (λ j. pos (c .curvePrice k j)) curveSteps) curves
     && all (λ i. energyStepsRight (c .resource i)) (upto (c .resources))
 
 -- ---- 7: no minimum above its maximum

@@ -54,10 +54,10 @@ offer c (Whole i s) = pos (servicePrice (c .resource i) s)
 offer c (CurveStep k j) = negℤ (pos (c .curvePrice k j))
 
 -- a step's upper bound is its width, or 0 for an energy step of a resource that is not on-line
-unfoldable pub width : Case → Priced → ℕ
-width c (EnergyStep i j) = cond (onLine (c .resource i)) (c .resource i .stepWidth j) 0
-width c (Whole i s) = serviceBound c (c .resource i) s
-width c (CurveStep k j) = c .curveWidth k j
+unfoldable pub pricedUpperBound : Case → Priced → ℕ
+pricedUpperBound c (EnergyStep i j) = cond (onLine (c .resource i)) (c .resource i .stepWidth j) 0
+pricedUpperBound c (Whole i s) = serviceBound c (c .resource i) s
+pricedUpperBound c (CurveStep k j) = c .curveWidth k j
 
 -- steps are filled in order: what of x fills step j
 unfoldable pub filled : (ℕ → ℕ) → ℕ → ℕ → ℕ

@@ -12,7 +12,7 @@ use Rattle.market.specs.CaseFile.{caseOf}
 use Rattle.market.specs.UpperBounds.{quantities, Schedule}
 use Rattle.market.specs.Rows.{rows, coefficient, rightSide, Balance, Market, Zone, Flowgate, slack, leftSide}
 use Rattle.market.specs.Certificate.{Prices, certificateOf}
-use Rattle.market.specs.Cost.{priced, quantityOf, offer, width, part, cost}
+use Rattle.market.specs.Cost.{priced, quantityOf, offer, pricedUpperBound, part, cost}
 use Rattle.market.specs.Bound.{netPrice, lowest, bound}
 use Rattle.market.specs.Charges.{gap, charges}
 use Rattle.market.specs.Prices.{LMP, zonePrices}
@@ -57,7 +57,7 @@ pub record SumsFit (c : Case) (x : Schedule) (y : Prices) : Type 0 where
   pub net-terms : Each (λ p. TermsFitWith (pos 1000 *ℤ offer c p) (λ r. y r *ℤ coefficient c r (quantityOf p)) (rows c)) (priced c)
   pub net-fits : Each (λ p. Fits64 (netPrice c y p)) (priced c)
   -- the bound: all of its terms together
-  pub product-terms : TermsFit (λ p. netPrice c y p *ℤ pos (width c p)) (priced c)
+  pub product-terms : TermsFit (λ p. netPrice c y p *ℤ pos (pricedUpperBound c p)) (priced c)
   pub bound-terms : (sizeOf (λ r. y r *ℤ rightSide c r) (rows c) + sizeOf (lowest c y) (priced c)) < range64
   pub bound-fits : Fits64 (bound c y)
   pub gap-fits : Fits64 (gap c x y)

@@ -13,7 +13,7 @@ use Rattle.market.specs.Rows.{Balance, Market, Zone, Flowgate, Limited, 
 use Rattle.market.specs.Certificate.{Prices}
 use Rattle.market.specs.Cost.{EnergyStep, Whole, CurveStep}
 use Rattle.market.specs.Bound.{netPrice}
-use Rattle.market.specs.Prices.{LMP, regulatingPrice, spinningPrice, supplementalPrice, shortTermPrice}
+use Rattle.market.specs.Prices.{LMP, zoneRegulatingPrice, zoneSpinningPrice, zoneSupplementalPrice, zoneShortTermPrice}
 
 -- ---- rows
 abbrev pub kwOf : Schedule → ℕ → Service → ℤ
@@ -61,10 +61,10 @@ pub record Placed (c : Case) (i z : ℕ) : Type 0 where
 pub record NetPricesInWords (c : Case) (y : Prices) : Type 0 where
   pub energy-step : (i j z : ℕ) → Placed c i z → netPrice c y (EnergyStep i j) ≡ pos 1000 *ℤ c .resource i .stepPrice j -ℤ LMP c y i +ℤ limitPrices y i
   pub regulation-price : (i z : ℕ) → Placed c i z →
-      netPrice c y (Whole i regulation) ≡ pos 1000 *ℤ pos (c .resource i .regulatingPrice) -ℤ regulatingPrice y z +ℤ (y (Limited i maxWithReserve) +ℤ y (Limited i minimum))
+      netPrice c y (Whole i regulation) ≡ pos 1000 *ℤ pos (c .resource i .regulatingPrice) -ℤ zoneRegulatingPrice y z +ℤ (y (Limited i maxWithReserve) +ℤ y (Limited i minimum))
   -- spinning or supplemental
   pub contingency-price : (i z : ℕ) → Placed c i z →
-      netPrice c y (Whole i contingency) ≡ pos 1000 *ℤ pos (c .resource i .contingencyPrice) -ℤ cond (isSpinning (c .resource i)) (spinningPrice y z) (supplementalPrice y z) +ℤ y (Limited i maxWithReserve)
-  pub on-line-short-term : (i z : ℕ) → Placed c i z → netPrice c y (Whole i onLineShortTerm) ≡ y (Limited i maxWithShortTerm) -ℤ shortTermPrice y z
-  pub off-line-short-term : (i z : ℕ) → Placed c i z → netPrice c y (Whole i offLineShortTerm) ≡ pos 1000 *ℤ pos (c .resource i .offLineShortTermPrice) -ℤ shortTermPrice y z
+      netPrice c y (Whole i contingency) ≡ pos 1000 *ℤ pos (c .resource i .contingencyPrice) -ℤ cond (isSpinning (c .resource i)) (zoneSpinningPrice y z) (zoneSupplementalPrice y z) +ℤ y (Limited i maxWithReserve)
+  pub on-line-short-term : (i z : ℕ) → Placed c i z → netPrice c y (Whole i onLineShortTerm) ≡ y (Limited i maxWithShortTerm) -ℤ zoneShortTermPrice y z
+  pub off-line-short-term : (i z : ℕ) → Placed c i z → netPrice c y (Whole i offLineShortTerm) ≡ pos 1000 *ℤ pos (c .resource i .offLineShortTermPrice) -ℤ zoneShortTermPrice y z
   pub curve-step : (k : Curve) (j : ℕ) → netPrice c y (CurveStep k j) ≡ y (Market k) -ℤ pos 1000 *ℤ pos (c .curvePrice k j)

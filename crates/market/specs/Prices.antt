@@ -15,23 +15,23 @@ LMP c y i = y Balance -ℤ sumOf (λ f. y (Flowgate f) *ℤ c .shiftFactor f i) 
 abbrev pub bothRows : Prices → ℕ → Curve → ℤ
 bothRows y z k = y (Market k) +ℤ y (Zone z k)
 
-unfoldable pub supplementalPrice : Prices → ℕ → ℤ
-supplementalPrice y z = bothRows y z operating
+unfoldable pub zoneSupplementalPrice : Prices → ℕ → ℤ
+zoneSupplementalPrice y z = bothRows y z operating
 
-unfoldable pub spinningPrice : Prices → ℕ → ℤ
-spinningPrice y z = bothRows y z operating +ℤ bothRows y z regulatingPlusSpinning
+unfoldable pub zoneSpinningPrice : Prices → ℕ → ℤ
+zoneSpinningPrice y z = bothRows y z operating +ℤ bothRows y z regulatingPlusSpinning
 
-unfoldable pub regulatingPrice : Prices → ℕ → ℤ
-regulatingPrice y z = bothRows y z operating +ℤ bothRows y z regulatingPlusSpinning +ℤ bothRows y z regulating
+unfoldable pub zoneRegulatingPrice : Prices → ℕ → ℤ
+zoneRegulatingPrice y z = bothRows y z operating +ℤ bothRows y z regulatingPlusSpinning +ℤ bothRows y z regulating
 
-unfoldable pub shortTermPrice : Prices → ℕ → ℤ
-shortTermPrice y z = bothRows y z shortTerm
+unfoldable pub zoneShortTermPrice : Prices → ℕ → ℤ
+zoneShortTermPrice y z = bothRows y z shortTerm
 
 abbrev pub zonePriceCount : ℕ
 zonePriceCount = 4
 
 abbrev pub zonePrices : Prices → ℕ → List ℤ
-zonePrices y z = regulatingPrice y z ∷ spinningPrice y z ∷ supplementalPrice y z ∷ shortTermPrice y z ∷ []
+zonePrices y z = zoneRegulatingPrice y z ∷ zoneSpinningPrice y z ∷ zoneSupplementalPrice y z ∷ zoneShortTermPrice y z ∷ []
 
 -- what the call for prices writes
 unfoldable pub priceList : Case → Prices → List ℤ

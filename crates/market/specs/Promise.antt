@@ -19,7 +19,7 @@ use Rattle.market.specs.Charges.{chargeCount}
 use Rattle.market.specs.Outcome.{Valid, outcome, valued, listedCharges, chargeAnswer, chargeBuffer}
 
 -- of case bytes b, certificate bytes q, and the three numbers of success
-pub record Promise (b q : List ℕ) (paid least gap : ℤ) : Type 0 where
+pub record Promise (b q : List ℕ) (paid lowerBound gap : ℤ) : Type 0 where
   -- the case is valid
   pub valid : Valid b
   -- every quantity is within its bound
@@ -28,8 +28,8 @@ pub record Promise (b q : List ℕ) (paid least gap : ℤ) : Type 0 where
   pub met : Met (caseOf b) (certificateOf q .amount)
   -- the three numbers are the schedule's cost, the prices' bound, and their difference
   pub paid-is : paid ≡ cost (caseOf b) (certificateOf q .amount)
-  pub least-is : least ≡ bound (caseOf b) (certificateOf q .price)
-  pub gap-is : gap ≡ paid -ℤ least
+  pub lower-bound-is : lowerBound ≡ bound (caseOf b) (certificateOf q .price)
+  pub gap-is : gap ≡ paid -ℤ lowerBound
   -- every other schedule within those bounds and rows costs at least the accepted cost less the gap
   pub no-cheaper : (other : Schedule) → Bounded (caseOf b) other → Met (caseOf b) other → (paid -ℤ gap) ≤ℤ cost (caseOf b) other
   -- the gap is the sum of the listed charges, one for each row and each priced quantity
@@ -43,4 +43,4 @@ pub record Promise (b q : List ℕ) (paid least gap : ℤ) : Type 0 where
   pub written : (buffer : List ℤ) → chargeAnswer b q (length buffer) ≡ Delivered → chargeBuffer b q buffer ≡ listedCharges b q ++ drop (chargeCount (caseOf b)) buffer
 
 abbrev pub Demand3 : Type 0
-Demand3 = (b q : List ℕ) (paid least gap : ℤ) → outcome b q ≡ Accepted (valued paid least gap) → Promise b q paid least gap
+Demand3 = (b q : List ℕ) (paid lowerBound gap : ℤ) → outcome b q ≡ Accepted (valued paid lowerBound gap) → Promise b q paid lowerBound gap

@@ -18,7 +18,7 @@ use Rattle.market.specs.declared.CurveSteps.{CurveSteps}
 use Rattle.market.specs.declared.State.{State}
 use Rattle.market.specs.declared.OutputLimits.{OutputLimits}
 use Rattle.market.specs.declared.Ramps.{Ramps}
-use Rattle.market.specs.declared.Starts.{Starts}
+use Rattle.market.specs.declared.OtherPowers.{OtherPowers}
 use Rattle.market.specs.declared.ReserveOffers.{ReserveOffers}
 use Rattle.market.specs.declared.ReserveTerms.{ReserveTerms}
 use Rattle.market.specs.declared.Terms.{Terms}
@@ -108,8 +108,8 @@ outputLimitsOf r =
 unfoldable pub rampsOf : Resource → Ramps
 rampsOf r = record { up = perMinute (r .rampUp); down = perMinute (r .rampDown); rate = perMinute (r .rampRate) }
 
-unfoldable pub startsOf : Resource → Starts
-startsOf r =
+unfoldable pub otherPowersOf : Resource → OtherPowers
+otherPowersOf r =
     record {
       initial = power (r .initial);
       «off_line_response» = power (r .offLineResponse);
@@ -124,7 +124,7 @@ reserveOffersOf r =
 -- a resource's record; its energy steps are `offerStepsOf`
 unfoldable pub recordOf : Resource → D.Resource
 recordOf r =
-    record { state = stateOf r; limits = outputLimitsOf r; ramps = rampsOf r; starts = startsOf r; offers = reserveOffersOf r }
+    record { state = stateOf r; limits = outputLimitsOf r; ramps = rampsOf r; «other_powers» = otherPowersOf r; offers = reserveOffersOf r }
 
 -- what a case says of a reserve
 unfoldable pub reserveTermsOf : Case → Reserve → ReserveTerms

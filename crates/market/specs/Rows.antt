@@ -68,8 +68,8 @@ none = pos 0
 unfoldable pub one : ℤ
 one = pos 1
 
-unfoldable pub less : ℤ
-less = negsuc 0
+unfoldable pub minusOne : ℤ
+minusOne = negsuc 0
 
 -- an entry for each of e, g, c, s, o
 unfoldable pub entries : ℤ → ℤ → ℤ → ℤ → ℤ → Service → ℤ
@@ -94,16 +94,16 @@ inReserve r regulating = entries none one none none none
 inReserve r shortTerm = entries none none none one one
 
 unfoldable pub inLimit : Limit → Service → ℤ
-inLimit maxWithReserve = entries less less less none none
-inLimit maxWithShortTerm = entries less none none less none
-inLimit minimum = entries one less none none none
-inLimit high = entries less none none none none
+inLimit maxWithReserve = entries minusOne minusOne minusOne none none
+inLimit maxWithShortTerm = entries minusOne none none minusOne none
+inLimit minimum = entries one minusOne none none none
+inLimit high = entries minusOne none none none none
 inLimit low = entries one none none none none
 
 unfoldable pub coefficient : Case → Row → Quantity → ℤ
 coefficient c Balance (Cleared l) = none
 coefficient c Balance (Provided i s) = entries one none none none none s
-coefficient c (Market k) (Cleared l) = cond (eqb (curveNumber k) (curveNumber l)) less none
+coefficient c (Market k) (Cleared l) = cond (eqb (curveNumber k) (curveNumber l)) minusOne none
 coefficient c (Market k) (Provided i s) = inReserve (c .resource i) k s
 coefficient c (Zone z k) (Cleared l) = none
 coefficient c (Zone z k) (Provided i s) = cond (eqb (c .resource i .zone) (suc z)) (inReserve (c .resource i) k s) none

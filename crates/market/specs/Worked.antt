@@ -30,8 +30,8 @@ pub record Example : Type 0 where
   pub given : List ℤ
   pub says : List ℤ
 
-abbrev pub bytesOf : List ℕ → List ℤ
-bytesOf = map pos
+abbrev pub asNumbers : List ℕ → List ℤ
+asNumbers = map pos
 
 -- refusal, place, cost, bound, gap
 abbrev pub figures : CheckResult → List ℤ
@@ -62,7 +62,7 @@ textOfK =
 -- (a) to (l), in order
 abbrev pub intervals : List Example
 intervals =
-    record { given = bytesOf (printed (K ++ Q)); says = bytesOf textOfK }
+    record { given = asNumbers (printed (K ++ Q)); says = asNumbers textOfK }
     ∷ record { given = run K (row1To 2500000 Q); says = accepted 140000000000 130000000000 10000000000 }
     ∷ record { given = run K (row1To 3500000 Q); says = accepted 140000000000 120000000000 20000000000 }
     ∷ record { given = run (demandTo 65000 K) (energyTo 65000 (row1To 3500000 (highTo 500000 Q))); says = accepted 155000000000 155000000000 0 }
@@ -121,7 +121,7 @@ refusals =
     ∷ record { given = counted (countOf (writeCertificate (certificateNumbers Q) 99)) ++ counted (countOf (writeCertificate (pos 1 ∷ pos 1 ∷ []) 99)); says = pos 15 ∷ pos 0 ∷ pos 16 ∷ pos 0 ∷ [] }
     -- F 17 and a list too short
     ∷ record { given = counted (countOf (writeCase (pos 1 ∷ pos 1 ∷ pos 17 ∷ []) 340)); says = pos 3 ∷ pos 0 ∷ [] }
-    ∷ record { given = bytesOf (printed (zeros 32769)); says = bytesOf (114 ∷ 101 ∷ 102 ∷ 117 ∷ 115 ∷ 101 ∷ 100 ∷ 32 ∷ 49 ∷ 55 ∷ 10 ∷ []) }
+    ∷ record { given = asNumbers (printed (zeros 32769)); says = asNumbers (114 ∷ 101 ∷ 102 ∷ 117 ∷ 115 ∷ 101 ∷ 100 ∷ 32 ∷ 49 ∷ 55 ∷ 10 ∷ []) }
     ∷ []
 
 -- rows 2 to 9 at 1, 10, 100, 1000, 2, 20, 200, 2000, row 1 at 2,500,000; g, c, s, o 1, 1, 1, 2
@@ -137,9 +137,9 @@ pricesInOrder = pos 2500000 ∷ pos 333 ∷ pos 33 ∷ pos 3 ∷ pos 3000 ∷ []
 -- rows; ten steps, g, c, s, o; sixteen curve steps
 abbrev pub chargesInOrder : List ℤ
 chargesInOrder =
-    (pos 0 ∷ pos 2 ∷ pos 10 ∷ pos 100 ∷ pos 3000 ∷ pos 4 ∷ pos 20 ∷ pos 200 ∷ pos 6000 ∷ bytesOf (zeros 5))
-    ++ (pos 0 ∷ pos 10000000000 ∷ bytesOf (zeros 8))
-    ++ (negℤ (pos 333) ∷ negℤ (pos 3) ∷ negℤ (pos 3000) ∷ negℤ (pos 6000) ∷ bytesOf (zeros 16))
+    (pos 0 ∷ pos 2 ∷ pos 10 ∷ pos 100 ∷ pos 3000 ∷ pos 4 ∷ pos 20 ∷ pos 200 ∷ pos 6000 ∷ asNumbers (zeros 5))
+    ++ (pos 0 ∷ pos 10000000000 ∷ asNumbers (zeros 8))
+    ++ (negℤ (pos 333) ∷ negℤ (pos 3) ∷ negℤ (pos 3000) ∷ negℤ (pos 6000) ∷ asNumbers (zeros 16))
 
 -- what the calls for prices and for charges write
 abbrev pub orders : List Example

@@ -292,7 +292,7 @@ pub struct Ramps {
     pub rate: KwPerMinute,
 }
 
-pub struct Starts {
+pub struct OtherPowers {
     pub initial: Kw,
     pub off_line_response: Kw,
     pub off_line_short_term: Kw,
@@ -310,7 +310,7 @@ pub struct Resource {
     pub state: State,
     pub limits: OutputLimits,
     pub ramps: Ramps,
-    pub starts: Starts,
+    pub other_powers: OtherPowers,
     pub offers: ReserveOffers,
 }
 

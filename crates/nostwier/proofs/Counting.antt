@@ -9,8 +9,8 @@ use Rattle.market.specs.declared.Count.{Count}
 use Rattle.market.specs.declared.Transfer.{Transfer}
 use Rattle.market.specs.declared.Transfer.the-variants.{Written, Refused}
 use Rattle.market.specs.Refusals.{countOf}
-use Rattle.readings.specs.Reading.{WrittenBack}
-use Rattle.writings.specs.Writing.{ReadBack}
+use Rattle.read_numbers.specs.Reading.{WrittenBack}
+use Rattle.write_numbers.specs.Writing.{ReadBack}
 use Rattle.nostwier.specs.Transferred.{NumbersRead, NumbersWritten}
 use Rattle.nostwier.proofs.Reporting.{numbered}
 

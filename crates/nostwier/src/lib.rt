@@ -19,7 +19,7 @@ use market::Transfer;
 pub extern "C" fn nostwier_check_case(c: &[u8]) -> u32
     ensures { λ r. ⌜ r ≡ caseNumberOf (caseAnswer (now (c .entry))) ⌝ }
 {
-    let answer = cases::check_case(c);
+    let answer = case_check::check_case(c);
     match answer {
         CaseAnswer::Valid => 0,
         CaseAnswer::Refused(why) => why.number(),
@@ -105,7 +105,7 @@ fn counted(answer: Transfer) -> Count
 pub extern "C" fn nostwier_read_case(c: &[u8], out: &mut [i64]) -> Count
     ensures { λ r. ⌜ NumbersRead readCase readCaseBuffer writeCase writeCaseBuffer (now (c .entry)) (now (out .entry)) (now (out .exit)) r ⌝ }
 {
-    counted(readings::read_case(c, out))
+    counted(read_numbers::read_case(c, out))
 }
 
 // A certificate's numbers.
@@ -113,7 +113,7 @@ pub extern "C" fn nostwier_read_case(c: &[u8], out: &mut [i64]) -> Count
 pub extern "C" fn nostwier_read_certificate(q: &[u8], out: &mut [i64]) -> Count
     ensures { λ r. ⌜ NumbersRead readCertificate readCertificateBuffer writeCertificate writeCertificateBuffer (now (q .entry)) (now (out .entry)) (now (out .exit)) r ⌝ }
 {
-    counted(readings::read_certificate(q, out))
+    counted(read_numbers::read_certificate(q, out))
 }
 
 // The case whose numbers are v.
@@ -121,7 +121,7 @@ pub extern "C" fn nostwier_read_certificate(q: &[u8], out: &mut [i64]) -> Count
 pub extern "C" fn nostwier_write_case(v: &[i64], out: &mut [u8]) -> Count
     ensures { λ r. ⌜ NumbersWritten readCase readCaseBuffer writeCase writeCaseBuffer (now (v .entry)) (now (out .entry)) (now (out .exit)) r ⌝ }
 {
-    counted(writings::write_case(v, out))
+    counted(write_numbers::write_case(v, out))
 }
 
 // The certificate whose numbers are v.
@@ -129,5 +129,5 @@ pub extern "C" fn nostwier_write_case(v: &[i64], out: &mut [u8]) -> Count
 pub extern "C" fn nostwier_write_certificate(v: &[i64], out: &mut [u8]) -> Count
     ensures { λ r. ⌜ NumbersWritten readCertificate readCertificateBuffer writeCertificate writeCertificateBuffer (now (v .entry)) (now (out .entry)) (now (out .exit)) r ⌝ }
 {
-    counted(writings::write_certificate(v, out))
+    counted(write_numbers::write_certificate(v, out))
 }

@@ -20,9 +20,9 @@ use Rattle.market.specs.Prices.{priceList, priceCount}
 use Rattle.market.specs.Outcome.{grounds, room, priceGrounds, priceAnswer, priceBuffer, chargeGrounds, chargeAnswer, chargeBuffer, listedCharges}
 use Rattle.market.proofs.LentBuffer.{refused-before, too-short, long-enough}
 use Rattle.market.proofs.Lengths.{charge-count, price-count}
-use Rattle.cases.specs.declared.Stage.the-variants.{Refused}
-use Rattle.cases.specs.Stages.{stageOf}
-use Rattle.cases.proofs.Passing.{refused-holds}
+use Rattle.case_check.specs.declared.Stage.the-variants.{Refused}
+use Rattle.case_check.specs.Stages.{stageOf}
+use Rattle.case_check.proofs.Passing.{refused-holds}
 use Rattle.outcomes.specs.Checked.{AcceptedWith}
 
 -- ---- the grounds gs, then 15

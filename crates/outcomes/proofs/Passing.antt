@@ -29,14 +29,14 @@ use Rattle.market.proofs.Ranges.{valid-ranges, price-ranges}
 use Rattle.market.proofs.ScheduleSizes.{cost-size}
 use Rattle.market.proofs.BoundSizes.{bound-size}
 use Rattle.market.proofs.SumsFit.{sums-fit-in-ranges}
-use Rattle.cases.specs.declared.Stage.{Stage}
-use Rattle.cases.specs.declared.Stage.the-variants.{Passed, Refused}
-use Rattle.cases.specs.Stages.{stageOf}
-use Rattle.cases.proofs.Passing.{passed-clear, refused-holds}
+use Rattle.case_check.specs.declared.Stage.{Stage}
+use Rattle.case_check.specs.declared.Stage.the-variants.{Passed, Refused}
+use Rattle.case_check.specs.Stages.{stageOf}
+use Rattle.case_check.proofs.Passing.{passed-clear, refused-holds}
 use Rattle.prices.specs.Standing.{Standing}
 use Rattle.units.specs.Room.{SumRoom}
-use Rattle.certificates.specs.Grounds13.{groundsTo13}
-use Rattle.certificates.proofs.Passing.{grounds-are, standing}
+use Rattle.quantities.specs.Grounds13.{groundsTo13}
+use Rattle.quantities.proofs.Passing.{grounds-are, standing}
 use Rattle.outcomes.specs.Checked.{AcceptedWith, outcomeAfter, Checked}
 
 -- ---- one ground more than 1 to 13

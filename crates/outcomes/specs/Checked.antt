@@ -8,8 +8,8 @@ use Rattle.market.specs.declared.Outcome.{Outcome}
 use Rattle.market.specs.declared.Outcome.the-variants.{Accepted}
 use Rattle.market.specs.declared.Outcome.the-variants as O
 use Rattle.market.specs.declared.Valuation.{Valuation}
-use Rattle.cases.specs.declared.Stage.{Stage}
-use Rattle.cases.specs.declared.Stage.the-variants as S
+use Rattle.case_check.specs.declared.Stage.{Stage}
+use Rattle.case_check.specs.declared.Stage.the-variants as S
 use Rattle.market.specs.CaseFile.{caseOf}
 use Rattle.market.specs.Records.{countsIn}
 use Rattle.market.specs.Refusals.{clear, firstOf}

@@ -1,6 +1,6 @@
 // The certificate check, grounds 1 to 14, and the calls that write into a lent buffer once it has passed
 // (01, 'How each operation refuses').
-use cases::Stage;
+use case_check::Stage;
 use market::Counts;
 use market::Delivery;
 use market::First;
@@ -15,7 +15,7 @@ ghost use Rattle.market.specs.Certificate.{certificateOf};
 ghost use Rattle.market.specs.Records.{countsIn};
 ghost use Rattle.market.specs.Refusals.{firstOf};
 ghost use Rattle.market.specs.Outcome.{grounds, valuation, priceAnswer, priceBuffer, chargeAnswer, chargeBuffer};
-ghost use Rattle.cases.specs.Stages.{stageOf};
+ghost use Rattle.case_check.specs.Stages.{stageOf};
 ghost use Rattle.prices.specs.Standing.{Standing};
 ghost use Rattle.outcomes.specs.Checked.{outcomeAfter, AcceptedWith, Checked};
 
@@ -23,7 +23,7 @@ ghost use Rattle.outcomes.specs.Checked.{outcomeAfter, AcceptedWith, Che
 fn rows_stage(b: &[u8], q: &[u8]) -> Stage
     ensures { λ r. ⌜ r ≡ stageOf (countsIn (caseOf (now (b .entry)))) (firstOf (grounds (now (b .entry)) (now (q .entry)))) ⌝ }
 {
-    let earlier = certificates::bounds_stage(b, q);
+    let earlier = quantities::bounds_stage(b, q);
     let Stage::Passed(n) = earlier else {
         return earlier;
     };
@@ -80,7 +80,7 @@ fn hand_over_prices(b: &[u8], q: &[u8], n: Counts, out: &mut [i64]) -> Delivery
     if out.len() < n.resources + 4 * n.zones {
         return Delivery::Refused(Refusal::BufferShort);
     }
-    delivery::write_prices(b, q, n.resources, n.zones, n.flowgates, out);
+    price_list::write_prices(b, q, n.resources, n.zones, n.flowgates, out);
     Delivery::Delivered
 }
 
@@ -90,7 +90,7 @@ pub fn deliver_prices(b: &[u8], q: &[u8], out: &mut [i64]) -> Delivery
 {
     let stage = rows_stage(b, q);
     let Stage::Refused(why) = stage else {
-        let n = cases::counts_at(b);
+        let n = case_check::counts_at(b);
         return hand_over_prices(b, q, n, out);
     };
     Delivery::Refused(why)
@@ -114,7 +114,7 @@ pub fn deliver_charges(b: &[u8], q: &[u8], out: &mut [i64]) -> Delivery
 {
     let stage = rows_stage(b, q);
     let Stage::Refused(why) = stage else {
-        let n = cases::counts_at(b);
+        let n = case_check::counts_at(b);
         return hand_over_charges(b, q, n, out);
     };
     Delivery::Refused(why)

@@ -15,8 +15,8 @@ use Rattle.market.specs.Rows.{Balance, Market, Zone, Flowgate}
 use Rattle.market.specs.Certificate.{Prices, certificateOf}
 use Rattle.market.proofs.Ranges.{CaseRanges, PriceRanges, valid-ranges, price-ranges}
 use Rattle.market.proofs.ScheduleSizes.{amount-of}
-use Rattle.records.proofs.Places.{resources-is, zones-is, flowgates-is}
-use Rattle.market.specs.Prices.{LMP, regulatingPrice, spinningPrice, supplementalPrice, shortTermPrice}
+use Rattle.case_records.proofs.Places.{resources-is, zones-is, flowgates-is}
+use Rattle.market.specs.Prices.{LMP, zoneRegulatingPrice, zoneSpinningPrice, zoneSupplementalPrice, zoneShortTermPrice}
 use Rattle.market.specs.Records.{reservePricesOf, amountsOf}
 use Rattle.units.specs.Room.{SumRoom, ProductRoom}
 use Rattle.prices.specs.Standing.{PricesStand, Standing, SmallAmounts}
@@ -107,7 +107,7 @@ module _ {b q : List ℕ} {r z f : ℕ} (s : PricesStand b q r z f) where
       }
 
 pub zone-prices-are : (y : Prices) (zone : ℕ) → addedPrices (reservePricesOf y Market) (reservePricesOf y (Zone zone)) ≡ zonePricesOf y zone
-unfolding addedPrices reservePricesOf zonePricesOf regulatingPrice spinningPrice supplementalPrice shortTermPrice
+unfolding addedPrices reservePricesOf zonePricesOf zoneRegulatingPrice zoneSpinningPrice zoneSupplementalPrice zoneShortTermPrice
 zone-prices-are y zone = refl
 
 -- ---- amounts within their bounds

@@ -9,8 +9,8 @@ use Rattle.market.specs.CaseFile.{caseOf}
 use Rattle.market.specs.Rows.{rows, Bounded}
 use Rattle.market.specs.Certificate.{certificateOf}
 use Rattle.market.specs.Outcome.{Valid, priceRight}
-use Rattle.records.specs.Places.{CaseBytes}
-use Rattle.entries.specs.CertificateBytes.{CertificateBytes}
+use Rattle.case_records.specs.Places.{CaseBytes}
+use Rattle.certificate_records.specs.CertificateBytes.{CertificateBytes}
 
 -- a valid case of r resources, z zones and f flowgates, and a certificate of that size with its prices in range
 pub record PricesStand (b q : List ℕ) (r z f : ℕ) : Type 0 where

@@ -3,17 +3,17 @@ use Prim.Native.Nat.{ℕ, _≤_}
 use lib.IntN.{natAbs, _+ℤ_}
 use Rattle.market.specs.declared.ReservePrices.{ReservePrices}
 use Rattle.market.specs.Certificate.{Prices}
-use Rattle.market.specs.Prices.{regulatingPrice, spinningPrice, supplementalPrice, shortTermPrice}
+use Rattle.market.specs.Prices.{zoneRegulatingPrice, zoneSpinningPrice, zoneSupplementalPrice, zoneShortTermPrice}
 use Rattle.market.specs.Records.{millicents}
 use Rattle.prices.specs.declared.ZonePrices.{ZonePrices}
 
 unfoldable pub zonePricesOf : Prices → ℕ → ZonePrices
 zonePricesOf y z =
     record {
-      regulating = millicents (regulatingPrice y z);
-      spinning = millicents (spinningPrice y z);
-      supplemental = millicents (supplementalPrice y z);
-      «short_term» = millicents (shortTermPrice y z);
+      regulating = millicents (zoneRegulatingPrice y z);
+      spinning = millicents (zoneSpinningPrice y z);
+      supplemental = millicents (zoneSupplementalPrice y z);
+      «short_term» = millicents (zoneShortTermPrice y z);
     }
 
 -- prices of rows, each in its range

@@ -21,8 +21,8 @@ fn congestion(b: &[u8], q: &[u8], r: usize, z: usize, f: usize, i: usize) -> Mil
     let mut sum = Millicents(0);
     let mut g: usize = 0;
     while g < f {
-        let p = entries::flowgate_price_at(q, r, z, f, g);
-        let x = readers::shift_factor_at(b, r, z, f, g, i);
+        let p = certificate_records::flowgate_price_at(q, r, z, f, g);
+        let x = case_reader::shift_factor_at(b, r, z, f, g, i);
         let t = units::factored(p, x);
         sum = units::price_sum(sum, t);
         g += 1;
@@ -35,7 +35,7 @@ pub fn lmp(b: &[u8], q: &[u8], r: usize, z: usize, f: usize, i: usize) -> Millic
     requires { ⌜ PricesStand (now b) (now q) r z f × (i < r) ⌝ }
     ensures { λ m. ⌜ m ≡ millicents (LMP (caseOf (now (b .entry))) (certificateOf (now (q .entry)) .price) i) ⌝ }
 {
-    let y = entries::balance_price(q, r, z, f);
+    let y = certificate_records::balance_price(q, r, z, f);
     let t = congestion(b, q, r, z, f, i);
     units::price_difference(y, t)
 }
@@ -72,7 +72,7 @@ pub fn zone_prices(b: &[u8], q: &[u8], r: usize, z: usize, f: usize, zone: usize
     requires { ⌜ PricesStand (now b) (now q) r z f × (zone < z) ⌝ }
     ensures { λ p. ⌜ p ≡ zonePricesOf (certificateOf (now (q .entry)) .price) zone ⌝ }
 {
-    let m = entries::market_prices(q, r, z, f);
-    let n = entries::zone_prices_at(q, r, z, f, zone);
+    let m = certificate_records::market_prices(q, r, z, f);
+    let n = certificate_records::zone_prices_at(q, r, z, f, zone);
     added(m, n)
 }

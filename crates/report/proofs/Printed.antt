@@ -24,10 +24,10 @@ use Rattle.market.specs.Program.{report, refusalLine, printed, printedOf, caseI
 use Rattle.prices.specs.Standing.{Standing}
 use Rattle.outcomes.proofs.Passing.{all-standing}
 use Rattle.arith.proofs.Buffers.{rest-is}
-use Rattle.text.specs.Written.{Wrote}
-use Rattle.lines.specs.Lines.{headLines, scheduleLines}
-use Rattle.lines.specs.Room.{mostText}
-use Rattle.lines.proofs.Lines.{refusal-most, head-most, schedule-fits, accepted-lines}
+use Rattle.decimals.specs.Written.{Wrote}
+use Rattle.printed_lines.specs.Lines.{headLines, scheduleLines}
+use Rattle.printed_lines.specs.Room.{mostText}
+use Rattle.printed_lines.proofs.Lines.{refusal-most, head-most, schedule-fits, accepted-lines}
 use Rattle.report.specs.Buffer.{reportCount, reportBuffer}
 
 -- ---- an accepted certificate stands

@@ -5,7 +5,7 @@ use Prim.Native.Nat.{ℕ}
 use lib.Dec.{leb}
 use lib.ListN.{length, drop}
 use Rattle.market.specs.Program.{printed}
-use Rattle.lines.specs.Room.{mostText}
+use Rattle.printed_lines.specs.Room.{mostText}
 
 -- the number of bytes that are written into a buffer of so many: the whole text, or none where a text could be longer
 unfoldable pub reportCount : List ℕ → ℕ → ℕ

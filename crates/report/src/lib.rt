@@ -8,8 +8,8 @@ ghost use Rattle.market.specs.CaseFile.{caseOf};
 ghost use Rattle.market.specs.Certificate.{certificateOf};
 ghost use Rattle.market.specs.Outcome.{outcome};
 ghost use Rattle.market.specs.Program.{report as reportOf};
-ghost use Rattle.text.specs.Written.{Wrote};
-ghost use Rattle.lines.specs.Room.{mostText};
+ghost use Rattle.decimals.specs.Written.{Wrote};
+ghost use Rattle.printed_lines.specs.Room.{mostText};
 ghost use Rattle.report.specs.Buffer.{reportCount, reportBuffer};
 use market::Outcome;
 use market::Refusal;
@@ -28,10 +28,10 @@ fn outcome_text(b: &[u8], q: &[u8], out: &mut [u8]) -> usize
     let answer = outcomes::check_certificate(b, q);
     match answer {
         Outcome::Accepted(v) => {
-            let n = cases::counts_at(b);
-            lines::accepted_text(b, q, n, v, out)
+            let n = case_check::counts_at(b);
+            printed_lines::accepted_text(b, q, n, v, out)
         }
-        Outcome::Refused(why) => lines::refusal_line(why, out),
+        Outcome::Refused(why) => printed_lines::refusal_line(why, out),
     }
 }
 
@@ -58,7 +58,7 @@ pub fn report(input: &[u8], out: &mut [u8]) -> usize
         return 0;
     }
     if input.len() > MOST_INPUT {
-        return lines::refusal_line(Refusal::InputLength, out);
+        return printed_lines::refusal_line(Refusal::InputLength, out);
     }
     let at = case_end(input);
     outcome_text(&input[..at], &input[at..], out)

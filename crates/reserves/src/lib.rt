@@ -54,8 +54,8 @@ fn reserve_given(b: &[u8], q: &[u8], r: usize, z: usize, f: usize, i: usize) -> 
     requires { ⌜ Standing (now b) (now q) r z f × (i < r) ⌝ }
     ensures { λ v. ⌜ v ≡ zonedAmountsOf (caseOf (now (b .entry))) (certificateOf (now (q .entry)) .amount) i ⌝ }
 {
-    let resource = readers::resource_at(b, r, z, f, i);
-    let a = entries::amounts_at(q, r, z, f, i);
+    let resource = case_reader::resource_at(b, r, z, f, i);
+    let a = certificate_records::amounts_at(q, r, z, f, i);
     let spin = spinning(resource.state, a.contingency);
     let amounts = given(a, spin);
     ZonedAmounts {

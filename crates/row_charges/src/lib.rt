@@ -41,9 +41,9 @@ fn write_balance(b: &[u8], q: &[u8], r: usize, z: usize, f: usize, out: &mut [i6
     requires { ⌜ Standing (now b) (now q) r z f × (1 ≤ length (now out)) ⌝ }
     ensures { λ _. ⌜ now (out .exit) ≡ map (rowChargeIn (now (b .entry)) (now (q .entry))) (Balance ∷ []) ++ drop 1 (now (out .entry)) ⌝ }
 {
-    let price = entries::balance_price(q, r, z, f);
+    let price = certificate_records::balance_price(q, r, z, f);
     let total = rows::energy_total(q, r, z, f);
-    let demand = readers::demand(b, r, z, f);
+    let demand = case_reader::demand(b, r, z, f);
     let value = charge(price, total, demand);
     let number = value.0;
     out[0] = number;
@@ -86,8 +86,8 @@ fn write_market(
     requires { ⌜ have ≡ marketTotal (now b) (now q) r ⌝ }
     ensures { λ _. ⌜ now (out .exit) ≡ map (rowChargeIn (now (b .entry)) (now (q .entry))) marketRows ++ drop 4 (now (out .entry)) ⌝ }
 {
-    let prices = entries::market_prices(q, r, z, f);
-    let need = entries::cleared(q, r, z, f);
+    let prices = certificate_records::market_prices(q, r, z, f);
+    let need = certificate_records::cleared(q, r, z, f);
     write_four(prices, have, need, out);
 }
 
@@ -126,7 +126,7 @@ fn write_zone(
     requires { ⌜ have ≡ zoneTotal (now b) (now q) r zone ⌝ }
     ensures { λ _. ⌜ now (out .exit) ≡ map (rowChargeIn (now (b .entry)) (now (q .entry))) (map (Zone zone) curves) ++ drop 4 (now (out .entry)) ⌝ }
 {
-    let prices = entries::zone_prices_at(q, r, z, f, zone);
+    let prices = certificate_records::zone_prices_at(q, r, z, f, zone);
     let need = rows::required(b, r, z, f, zone);
     write_four(prices, have, need, out);
 }
@@ -161,9 +161,9 @@ fn flowgate_charge(b: &[u8], q: &[u8], r: usize, z: usize, f: usize, g: usize) -
     requires { ⌜ Standing (now b) (now q) r z f × (g < f) ⌝ }
     ensures { λ v. ⌜ v ≡ grains (rowChargeIn (now (b .entry)) (now (q .entry)) (Flowgate g)) ⌝ }
 {
-    let price = entries::flowgate_price_at(q, r, z, f, g);
+    let price = certificate_records::flowgate_price_at(q, r, z, f, g);
     let flows = rows::flow(b, q, r, z, f, g);
-    let limit = readers::flowgate_limit_at(b, r, z, f, g);
+    let limit = case_reader::flowgate_limit_at(b, r, z, f, g);
     let most = units::in_watts(limit);
     let slack = units::watts_difference(most, flows);
     units::flow_value(price, slack)
@@ -214,10 +214,10 @@ fn write_resource(b: &[u8], q: &[u8], r: usize, z: usize, f: usize, i: usize, ou
     requires { ⌜ Standing (now b) (now q) r z f × ((i < r) × (5 ≤ length (now out))) ⌝ }
     ensures { λ _. ⌜ now (out .exit) ≡ map (rowChargeIn (now (b .entry)) (now (q .entry))) (map (Limited i) limits) ++ drop 5 (now (out .entry)) ⌝ }
 {
-    let prices = entries::limit_prices_at(q, r, z, f, i);
-    let resource = readers::resource_at(b, r, z, f, i);
+    let prices = certificate_records::limit_prices_at(q, r, z, f, i);
+    let resource = case_reader::resource_at(b, r, z, f, i);
     let own = limits::limits_of(resource);
-    let a = entries::amounts_at(q, r, z, f, i);
+    let a = certificate_records::amounts_at(q, r, z, f, i);
     write_five(prices, a, own, out);
 }
 

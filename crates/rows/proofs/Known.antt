@@ -24,8 +24,8 @@ use Rattle.market.specs.InWords.{kwOf}
 use Rattle.market.specs.Records.{recordOf}
 use Rattle.market.specs.Refusals.{Finding, foundAt, firstFailing}
 use Rattle.market.proofs.FirstFailing.{orElse, first-append, first-none, passes, fails}
-use Rattle.records.specs.Ranged.{Ranged}
-use Rattle.records.proofs.Ranged.{valid-resource}
+use Rattle.case_records.specs.Ranged.{Ranged}
+use Rattle.case_records.proofs.Ranged.{valid-resource}
 use Rattle.prices.specs.Standing.{Standing}
 use Rattle.prices.proofs.Known.{factor-size, resource-below, amount-small}
 use Rattle.units.specs.Room.{SumRoom, ProductRoom}

@@ -15,8 +15,8 @@ ghost use Rattle.market.specs.InWords.{kwOf};
 ghost use Rattle.market.specs.Records.{kw, watts, curveAmountsOf};
 ghost use Rattle.market.specs.Refusals.{foundAt, firstFailing};
 ghost use Rattle.market.specs.Outcome.{rowMet};
-ghost use Rattle.records.specs.Places.{ZoneIn};
-ghost use Rattle.entries.specs.CertificateBytes.{CertificateBytes};
+ghost use Rattle.case_records.specs.Places.{ZoneIn};
+ghost use Rattle.certificate_records.specs.CertificateBytes.{CertificateBytes};
 ghost use Rattle.prices.specs.Standing.{Standing, SmallAmounts};
 ghost use Rattle.reserves.specs.Given.{marketTotal, zoneTotal, zoneTotals};
 ghost use Rattle.rows.specs.Tests.{firstFalse, shortTests, limitTests, EnergyBounded, brokenFrom, mostRow, mostFirstLimit, Numbered};
@@ -38,7 +38,7 @@ pub fn energy_total(q: &[u8], r: usize, z: usize, f: usize) -> Kw
     let mut sum = Kw(0);
     let mut i: usize = 0;
     while i < r {
-        let a = entries::amounts_at(q, r, z, f, i);
+        let a = certificate_records::amounts_at(q, r, z, f, i);
         sum = units::kw_sum(sum, a.energy);
         i += 1;
     }
@@ -51,7 +51,7 @@ fn balanced(b: &[u8], q: &[u8], r: usize, z: usize, f: usize) -> bool
     ensures { λ t. ⌜ t ≡ rowMet (caseOf (now (b .entry))) (certificateOf (now (q .entry))) Balance ⌝ }
 {
     let total = energy_total(q, r, z, f);
-    let demand = readers::demand(b, r, z, f);
+    let demand = case_reader::demand(b, r, z, f);
     if !units::at_least(total, demand) {
         return false;
     }
@@ -85,7 +85,7 @@ fn market_short(b: &[u8], q: &[u8], r: usize, z: usize, f: usize, have: CurveAmo
     requires { ⌜ Standing (now b) (now q) r z f × (have ≡ marketTotal (now b) (now q) r) ⌝ }
     ensures { λ n. ⌜ foundAt RowBroken n ≡ brokenFrom (now (b .entry)) (now (q .entry)) 2 marketRows ⌝ }
 {
-    let need = entries::cleared(q, r, z, f);
+    let need = certificate_records::cleared(q, r, z, f);
     first_short(have, need, 2)
 }
 
@@ -94,7 +94,7 @@ pub fn required(b: &[u8], r: usize, z: usize, f: usize, zone: usize) -> CurveAmo
     requires { ⌜ ZoneIn (now b) zone ⌝ }
     ensures { λ v. ⌜ v ≡ curveAmountsOf (λ k. pos (caseOf (now (b .entry)) .zoneRequirement zone k)) ⌝ }
 {
-    let all = readers::zone_at(b, r, z, f, zone);
+    let all = case_reader::zone_at(b, r, z, f, zone);
     CurveAmounts {
         operating: all.of[0],
         regulating_plus_spinning: all.of[1],
@@ -156,8 +156,8 @@ pub fn flow(b: &[u8], q: &[u8], r: usize, z: usize, f: usize, g: usize) -> Watts
     let mut sum = Watts(0);
     let mut i: usize = 0;
     while i < r {
-        let factor = readers::shift_factor_at(b, r, z, f, g, i);
-        let a = entries::amounts_at(q, r, z, f, i);
+        let factor = case_reader::shift_factor_at(b, r, z, f, g, i);
+        let a = certificate_records::amounts_at(q, r, z, f, i);
         let part = units::flow(factor, a.energy);
         sum = units::watts_sum(sum, part);
         i += 1;
@@ -171,7 +171,7 @@ fn flowgate_over(b: &[u8], q: &[u8], r: usize, z: usize, f: usize, g: usize, row
     ensures { λ n. ⌜ foundAt RowBroken n ≡ brokenFrom (now (b .entry)) (now (q .entry)) row (Flowgate g ∷ []) ⌝ }
 {
     let flows = flow(b, q, r, z, f, g);
-    let limit = readers::flowgate_limit_at(b, r, z, f, g);
+    let limit = case_reader::flowgate_limit_at(b, r, z, f, g);
     let most = units::in_watts(limit);
     if units::watts_at_least(most, flows) {
         return First::None;
@@ -230,9 +230,9 @@ fn resource_outside(b: &[u8], q: &[u8], r: usize, z: usize, f: usize, i: usize, 
     requires { ⌜ Standing (now b) (now q) r z f × ((i < r) × Numbered mostRow first) ⌝ }
     ensures { λ n. ⌜ foundAt RowBroken n ≡ brokenFrom (now (b .entry)) (now (q .entry)) first (map (Limited i) limits) ⌝ }
 {
-    let resource = readers::resource_at(b, r, z, f, i);
+    let resource = case_reader::resource_at(b, r, z, f, i);
     let own = limits::limits_of(resource);
-    let a = entries::amounts_at(q, r, z, f, i);
+    let a = certificate_records::amounts_at(q, r, z, f, i);
     first_outside(a, own, first)
 }
 

@@ -1,6 +1,6 @@
 use Prim.Native.Nat.{_-_, _*_}
 use native.Mathlib.Omega.{arith}
-use Rattle.records.specs.Ranged.{curveStep}
+use Rattle.case_records.specs.Ranged.{curveStep}
 use Rattle.bounds.specs.Sizes.{mostCurveStepTerm}
 use Rattle.bounds.specs.Terms.{curveStepLeast}
 use Rattle.bounds.proofs.Figures.{Summed, none-summed, one-summed, all-summed}

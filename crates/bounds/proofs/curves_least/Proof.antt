@@ -5,8 +5,8 @@ use Rattle.market.specs.Certificate.{certificateOf}
 use Rattle.market.specs.declared.ReservePrices.{ReservePrices}
 use Rattle.market.specs.Case.{operating, regulatingPlusSpinning, regulating, shortTerm}
 use Rattle.market.specs.Records.{reservePricesOf}
-use Rattle.records.proofs.Places.{curve-in}
-use Rattle.records.proofs.Ranged.{curve-ranged}
+use Rattle.case_records.proofs.Places.{curve-in}
+use Rattle.case_records.proofs.Ranged.{curve-ranged}
 use Rattle.prices.proofs.Known.{case-ranges, market-small}
 use Rattle.bounds.proofs.PricedTerms.{curve-from, curves-are}
 use borrow.Author.Needs.{needs}

@@ -5,7 +5,7 @@ use Rattle.arith.proofs.Magnitudes.{abs-mul}
 use Rattle.market.specs.CaseFile.{caseOf}
 use Rattle.market.specs.Certificate.{certificateOf}
 use Rattle.market.specs.Records.{watts}
-use Rattle.records.proofs.Places.{flowgate-in}
+use Rattle.case_records.proofs.Places.{flowgate-in}
 use Rattle.prices.proofs.Known.{limit-size, limit-room}
 use Rattle.bounds.proofs.Figures.{figure-is, figure-as}
 use Rattle.bounds.proofs.RowTerms.{flowgate-room, flowgate-term-size, flowgate-value-is}

@@ -4,10 +4,10 @@ use native.Mathlib.Omega.{arith}
 use Rattle.market.specs.CaseFile.{caseOf}
 use Rattle.market.specs.Certificate.{certificateOf}
 use Rattle.market.specs.Records.{offerStepsOf}
-use Rattle.records.proofs.Places.{head-in, resource-in}
-use Rattle.records.proofs.Ranged.{valid-resource}
+use Rattle.case_records.proofs.Places.{head-in, resource-in}
+use Rattle.case_records.proofs.Ranged.{valid-resource}
 use Rattle.prices.proofs.Known.{case-ranges, prices-in-range, resource-below}
-use Rattle.nets.proofs.Known.{nets-small}
+use Rattle.net_prices.proofs.Known.{nets-small}
 use Rattle.bounds.proofs.PricedSizes.{steps-small, bounds-small}
 use Rattle.bounds.proofs.PricedTerms.{resource-least-is}
 use borrow.Author.Needs.{needs}

@@ -3,9 +3,9 @@ use native.Mathlib.Omega.{arith}
 use Rattle.market.specs.CaseFile.{caseOf}
 use Rattle.market.specs.Certificate.{certificateOf}
 use Rattle.market.specs.Records.{recordOf}
-use Rattle.records.proofs.Ranged.{valid-resource}
+use Rattle.case_records.proofs.Ranged.{valid-resource}
 use Rattle.prices.proofs.Known.{case-ranges, prices-in-range, resource-below}
-use Rattle.nets.proofs.Known.{limit-prices-small}
+use Rattle.net_prices.proofs.Known.{limit-prices-small}
 use Rattle.bounds.specs.Terms.{limitTerms}
 use Rattle.bounds.proofs.RowTerms.{limits-small, limit-value-is}
 use borrow.Author.Needs.{needs}

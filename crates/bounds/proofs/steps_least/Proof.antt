@@ -1,6 +1,6 @@
 use Prim.Native.Nat.{_-_, _*_}
 use native.Mathlib.Omega.{arith}
-use Rattle.records.specs.Ranged.{offerStep}
+use Rattle.case_records.specs.Ranged.{offerStep}
 use Rattle.market.specs.UpperBounds.{energy}
 use Rattle.market.specs.Sizes.{mostServiceNet}
 use Rattle.bounds.specs.Sizes.{stepsWidth}

@@ -6,7 +6,7 @@ use lib.IntN.{natAbs}
 use borrow.Author.Needs.{needs}
 use Rattle.arith.proofs.Machine.{read-back}
 use Rattle.market.specs.Records.{grains}
-use Rattle.records.specs.Ranged.{curveStep}
+use Rattle.case_records.specs.Ranged.{curveStep}
 use Rattle.costs.proofs.Filling.{curve-ranges}
 use Rattle.charges.specs.Terms.{curveCharge}
 use Rattle.charges.proofs.Fit.{curve-step-room}

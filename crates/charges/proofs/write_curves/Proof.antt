@@ -10,7 +10,7 @@ use Rattle.market.specs.Case.{operating, regulatingPlusSpinning, regulating, sh
 use Rattle.market.specs.Records.{reservePricesOf, clearedOf}
 use Rattle.market.specs.declared.CurveAmounts.{CurveAmounts}
 use Rattle.market.specs.declared.ReservePrices.{ReservePrices}
-use Rattle.records.proofs.Places.{curve-in}
+use Rattle.case_records.proofs.Places.{curve-in}
 use Rattle.arith.proofs.Buffers.{rest-length, write-on}
 use Rattle.charges.specs.Terms.{curveFrom, curveCharges}
 use Rattle.charges.proofs.Known.{curve-fits, curve-read, curves-listed, pair-count}

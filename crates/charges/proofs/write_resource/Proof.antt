@@ -9,7 +9,7 @@ use borrow.Author.Needs.{needs}
 use Rattle.arith.specs.Sums.{upto}
 use Rattle.market.specs.Records.{recordOf, offerStepsOf}
 use Rattle.market.specs.CaseFile.{caseOf}
-use Rattle.records.proofs.Places.{head-in, resource-in}
+use Rattle.case_records.proofs.Places.{head-in, resource-in}
 use Rattle.costs.proofs.Known.{resource-known}
 use Rattle.arith.proofs.Buffers.{rest-length, write-on}
 use Rattle.charges.specs.Terms.{energyCharge, reserveCharges}

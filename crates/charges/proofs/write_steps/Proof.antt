@@ -6,7 +6,7 @@ use lib.IntN.{natAbs}
 use borrow.Author.Needs.{needs}
 use Rattle.arith.proofs.Machine.{read-back}
 use Rattle.market.specs.Records.{grains}
-use Rattle.records.specs.Ranged.{offerStep}
+use Rattle.case_records.specs.Ranged.{offerStep}
 use Rattle.costs.proofs.Filling.{offer-ranges}
 use Rattle.charges.specs.Terms.{energyCharge}
 use Rattle.charges.proofs.Fit.{offer-step-room}

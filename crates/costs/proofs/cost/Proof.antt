@@ -4,7 +4,7 @@ use borrow.Author.Needs.{needs}
 use Rattle.market.specs.Records.{grains}
 use Rattle.market.specs.Certificate.{certificateOf}
 use Rattle.market.specs.CaseFile.{caseOf}
-use Rattle.records.proofs.Places.{resources-is}
+use Rattle.case_records.proofs.Places.{resources-is}
 use Rattle.costs.proofs.Known.{curves-fit, cost-room, grains-room}
 use Rattle.costs.proofs.Totals.{cost-is}
 use Rattle.costs.proofs.cost.Statement.{statement}

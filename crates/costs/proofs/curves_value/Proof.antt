@@ -6,7 +6,7 @@ use Rattle.market.specs.Case.{operating, regulatingPlusSpinning, regulating, sh
 use Rattle.market.specs.CaseFile.{caseOf}
 use Rattle.market.specs.Certificate.{certificateOf}
 use Rattle.market.specs.Records.{clearedOf}
-use Rattle.records.proofs.Places.{curve-in}
+use Rattle.case_records.proofs.Places.{curve-in}
 use Rattle.costs.specs.Worth.{thousands, curveValue}
 use Rattle.costs.proofs.Totals.{four-curves, curve-value-is}
 use Rattle.costs.proofs.Known.{curve-known, cleared-known, curve-size, two-curves-size, three-curves-size}

@@ -4,7 +4,7 @@ use Prim.Native.Nat.{_-_}
 use native.Mathlib.Omega.{arith}
 use lib.IntN.{natAbs}
 use borrow.Author.Needs.{needs}
-use Rattle.records.specs.Ranged.{offerStep}
+use Rattle.case_records.specs.Ranged.{offerStep}
 use Rattle.costs.specs.Steps.{StepRanges}
 use Rattle.costs.proofs.Filling.{offer-ranges}
 use Rattle.costs.proofs.FillingLoop.{StepsFilled, none-filled, fill-room, part-room, worth-room, one-filled, all-filled}

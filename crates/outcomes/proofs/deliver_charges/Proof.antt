@@ -6,8 +6,8 @@ use Rattle.market.specs.CaseFile.{caseOf}
 use Rattle.market.specs.Outcome.{grounds}
 use Rattle.market.specs.Records.{countsIn}
 use Rattle.market.specs.Refusals.{firstOf}
-use Rattle.cases.specs.declared.Stage.the-variants.{Passed, Refused}
-use Rattle.cases.specs.Stages.{stageOf}
+use Rattle.case_check.specs.declared.Stage.the-variants.{Passed, Refused}
+use Rattle.case_check.specs.Stages.{stageOf}
 use Rattle.outcomes.specs.Checked.{AcceptedWith}
 use Rattle.outcomes.proofs.Passing.{accepted-with, has-head}
 use Rattle.outcomes.proofs.Lent.{charges-refused}

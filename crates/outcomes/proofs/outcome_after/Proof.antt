@@ -1,7 +1,7 @@
 -- `outcomes::outcome_after` meets its contract. Assumes nothing.
 use mathlib.Core.Path.{_≡_}
 use borrow.Author.Needs.{needs}
-use Rattle.cases.specs.declared.Stage.the-variants.{Passed, Refused}
+use Rattle.case_check.specs.declared.Stage.the-variants.{Passed, Refused}
 use Rattle.outcomes.proofs.outcome_after.Statement.{statement}
 use Rattle.outcomes.proofs.outcome_after.Tie as tie
 

@@ -1,8 +1,8 @@
 use Rattle.outcomes.proofs.Passing.{rows-not-reached, row-broken, rows-met}
-use Rattle.certificates.proofs.Passing.{passed-standing}
-use Rattle.certificates.specs.Grounds13.{groundsTo13}
-use Rattle.cases.specs.Stages.{stageOf}
-use Rattle.cases.specs.declared.Stage.the-variants.{Passed, Refused}
+use Rattle.quantities.proofs.Passing.{passed-standing}
+use Rattle.quantities.specs.Grounds13.{groundsTo13}
+use Rattle.case_check.specs.Stages.{stageOf}
+use Rattle.case_check.specs.declared.Stage.the-variants.{Passed, Refused}
 use Rattle.market.specs.Refusals.{firstOf}
 use Rattle.market.specs.Records.{countsIn}
 use Rattle.market.specs.CaseFile.{caseOf}

@@ -8,7 +8,7 @@ use Rattle.market.specs.CaseFile.{caseOf}
 use Rattle.market.specs.Rows.{Flowgate}
 use Rattle.market.specs.Certificate.{certificateOf}
 use Rattle.market.specs.Records.{millicents}
-use Rattle.records.proofs.Places.{factor-in}
+use Rattle.case_records.proofs.Places.{factor-in}
 use Rattle.prices.proofs.Known.{congestion-size, congestion-room, congestion-so-far}
 use borrow.Author.Needs.{needs}
 use Rattle.prices.proofs.congestion.Statement.{statement}

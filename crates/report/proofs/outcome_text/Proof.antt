@@ -2,7 +2,7 @@
 use mathlib.Core.Path.{_≡_, sym, _∙_}
 use native.Mathlib.Omega.{arith}
 use borrow.Author.Needs.{needs}
-use Rattle.records.proofs.Places.{head-in}
+use Rattle.case_records.proofs.Places.{head-in}
 use Rattle.market.specs.Outcome.{outcome}
 use Rattle.market.specs.declared.Outcome.the-variants.{Accepted, Refused}
 use Rattle.report.proofs.Printed.{accepted-stands, refused-text}

@@ -10,7 +10,7 @@ use Rattle.market.specs.UpperBounds.{energy}
 use Rattle.market.specs.Certificate.{certificateOf}
 use Rattle.market.specs.InWords.{kwOf}
 use Rattle.market.specs.Records.{grains, watts}
-use Rattle.records.proofs.Places.{flowgate-in, resources-is}
+use Rattle.case_records.proofs.Places.{flowgate-in, resources-is}
 use Rattle.prices.proofs.Known.{case-ranges, prices-in-range, flowgate-below, flowgate-size, limit-room}
 use Rattle.row_charges.proofs.FromRecords.{flowgate-charge}
 use Rattle.row_charges.proofs.Fit.{mostSide, limit-side, flow-side, flow-value-room}

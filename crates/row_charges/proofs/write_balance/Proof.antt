@@ -6,7 +6,7 @@ use Rattle.arith.proofs.Machine.{read-back}
 use Rattle.market.specs.CaseFile.{caseOf}
 use Rattle.market.specs.Certificate.{certificateOf}
 use Rattle.market.specs.Rows.{Balance}
-use Rattle.records.proofs.Places.{resources-is}
+use Rattle.case_records.proofs.Places.{resources-is}
 use Rattle.prices.proofs.Known.{case-ranges, prices-in-range}
 use Rattle.rows.proofs.Known.{energy-bounded}
 use Rattle.arith.proofs.Buffers.{store-front}

@@ -9,7 +9,7 @@ use borrow.Author.Needs.{needs}
 use Rattle.arith.proofs.Machine.{read-back}
 use Rattle.arith.specs.Sums.{upto}
 use Rattle.market.specs.Rows.{Flowgate}
-use Rattle.records.proofs.Places.{flowgates-is}
+use Rattle.case_records.proofs.Places.{flowgates-is}
 use Rattle.row_charges.specs.Families.{rowChargeIn}
 use Rattle.row_charges.proofs.Written.{row-written, rows-done}
 use Rattle.row_charges.proofs.write_flowgates.Statement.{statement}

@@ -6,7 +6,7 @@ use native.Mathlib.Omega.{arith}
 use borrow.Author.Needs.{needs}
 use Rattle.market.specs.CaseFile.{caseOf}
 use Rattle.market.specs.Rows.{flowgateRows, limitRows}
-use Rattle.records.proofs.Places.{flowgates-is}
+use Rattle.case_records.proofs.Places.{flowgates-is}
 use Rattle.arith.proofs.Buffers.{write-on}
 use Rattle.row_charges.specs.Families.{rowChargeIn}
 use Rattle.row_charges.proofs.Written.{flowgate-count}

@@ -9,7 +9,7 @@ use borrow.Rule.Slice.PartMut.{same-len-mid}
 use borrow.Author.Needs.{needs}
 use Rattle.arith.specs.Sums.{upto, across}
 use Rattle.market.specs.Rows.{Limited, limits}
-use Rattle.records.proofs.Places.{resources-is}
+use Rattle.case_records.proofs.Places.{resources-is}
 use Rattle.arith.proofs.Buffers.{rest-length}
 use Rattle.row_charges.specs.Families.{rowChargeIn}
 use Rattle.row_charges.proofs.Written.{block-written, blocks-done}

@@ -8,7 +8,7 @@ use borrow.Rule.Slice.PartMut.{putMid}
 use borrow.Author.Needs.{needs}
 use Rattle.market.specs.CaseFile.{caseOf}
 use Rattle.market.specs.Rows.{Balance, marketRows, zoneRows, flowgateRows, limitRows}
-use Rattle.records.proofs.Places.{zones-is}
+use Rattle.case_records.proofs.Places.{zones-is}
 use Rattle.arith.proofs.Buffers.{rest-length, write-on}
 use Rattle.reserves.specs.declared.ReserveTotals.{ReserveTotals}
 use Rattle.row_charges.specs.Families.{rowChargeIn}

@@ -6,7 +6,7 @@ use lib.ListN.{drop}
 use borrow.Author.Needs.{needs}
 use Rattle.market.specs.CaseFile.{caseOf}
 use Rattle.market.specs.Certificate.{certificateOf}
-use Rattle.records.proofs.Places.{resources-is}
+use Rattle.case_records.proofs.Places.{resources-is}
 use Rattle.prices.proofs.Known.{case-ranges, prices-in-range, zone-below}
 use Rattle.row_charges.proofs.FromRecords.{zone-charges}
 use Rattle.row_charges.proofs.Fit.{zone-room}

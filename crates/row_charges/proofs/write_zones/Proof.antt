@@ -10,7 +10,7 @@ use borrow.Author.Needs.{needs}
 use Rattle.arith.specs.Sums.{upto, across}
 use Rattle.market.specs.Case.{curves}
 use Rattle.market.specs.Rows.{Zone}
-use Rattle.records.proofs.Places.{zones-is}
+use Rattle.case_records.proofs.Places.{zones-is}
 use Rattle.reserves.specs.Given.{zoneTotal}
 use Rattle.arith.proofs.Tables.{table-entry}
 use Rattle.arith.proofs.Buffers.{rest-length}

@@ -7,7 +7,7 @@ use Rattle.market.specs.Rows.{Balance}
 use Rattle.market.specs.Certificate.{certificateOf}
 use Rattle.market.specs.Outcome.{rowMet}
 use Rattle.limits.proofs.Fields.{told-false, told-true}
-use Rattle.records.proofs.Places.{zones-is}
+use Rattle.case_records.proofs.Places.{zones-is}
 use Rattle.reserves.specs.declared.ReserveTotals.{ReserveTotals}
 use Rattle.rows.proofs.Known.{balance-broken, market-broken, zone-broken, rest-broken}
 use borrow.Author.Needs.{needs}

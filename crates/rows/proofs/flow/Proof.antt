@@ -9,7 +9,7 @@ use Rattle.market.specs.UpperBounds.{energy}
 use Rattle.market.specs.Certificate.{certificateOf}
 use Rattle.market.specs.InWords.{kwOf}
 use Rattle.market.specs.Records.{watts, amountsOf}
-use Rattle.records.proofs.Places.{factor-in}
+use Rattle.case_records.proofs.Places.{factor-in}
 use Rattle.rows.proofs.Known.{part-room, flow-room}
 use borrow.Author.Needs.{needs}
 use Rattle.rows.proofs.flow.Statement.{statement}

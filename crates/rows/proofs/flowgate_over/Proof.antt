@@ -6,7 +6,7 @@ use Rattle.market.specs.Rows.{Flowgate}
 use Rattle.market.specs.Certificate.{certificateOf}
 use Rattle.market.specs.Outcome.{rowMet}
 use Rattle.market.proofs.FirstFailing.{passes, fails, first-none}
-use Rattle.records.proofs.Places.{flowgate-in, resources-is}
+use Rattle.case_records.proofs.Places.{flowgate-in, resources-is}
 use Rattle.prices.proofs.Known.{limit-room}
 use Rattle.rows.proofs.Tests.{flowgate-met}
 use borrow.Author.Needs.{needs}

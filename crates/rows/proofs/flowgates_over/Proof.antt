@@ -8,7 +8,7 @@ use Rattle.market.specs.CaseFile.{caseOf}
 use Rattle.market.specs.Certificate.{certificateOf}
 use Rattle.market.specs.Refusals.{clear, foundAt, firstFailing}
 use Rattle.market.specs.Outcome.{rowMet}
-use Rattle.records.proofs.Places.{flowgates-is}
+use Rattle.case_records.proofs.Places.{flowgates-is}
 use Rattle.prices.proofs.Known.{flowgate-below}
 use Rattle.rows.proofs.Search.{search-none, search-more, search-stop}
 use mathlib.Core.List.{[], _∷_}

@@ -3,7 +3,7 @@ use Rattle.market.specs.CaseFile.{caseOf}
 use Rattle.market.specs.Rows.{marketRows}
 use Rattle.market.specs.Certificate.{certificateOf}
 use Rattle.market.specs.Outcome.{rowMet}
-use Rattle.records.proofs.Places.{resources-is}
+use Rattle.case_records.proofs.Places.{resources-is}
 use Rattle.rows.proofs.Search.{first-false}
 use Rattle.rows.proofs.Tests.{market-tests}
 use borrow.Author.Needs.{needs}

@@ -5,7 +5,7 @@ use Rattle.market.specs.declared.Refusal.the-variants.{RowBroken}
 use Rattle.market.specs.CaseFile.{caseOf}
 use Rattle.market.specs.Certificate.{certificateOf}
 use Rattle.market.specs.Outcome.{rowMet}
-use Rattle.records.proofs.Places.{flowgates-is}
+use Rattle.case_records.proofs.Places.{flowgates-is}
 use Rattle.rows.proofs.Known.{flowgate-broken, limit-broken}
 use borrow.Author.Needs.{needs}
 use Rattle.rows.proofs.network_broken.Statement.{statement}

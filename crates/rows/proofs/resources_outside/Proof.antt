@@ -8,7 +8,7 @@ use Rattle.market.specs.CaseFile.{caseOf}
 use Rattle.market.specs.Certificate.{certificateOf}
 use Rattle.market.specs.Refusals.{clear, foundAt, firstFailing}
 use Rattle.market.specs.Outcome.{rowMet}
-use Rattle.records.proofs.Places.{resources-is}
+use Rattle.case_records.proofs.Places.{resources-is}
 use Rattle.prices.proofs.Known.{resource-below}
 use Rattle.rows.proofs.Search.{search-none, search-more, search-stop}
 use mathlib.Core.List.{map}

@@ -5,7 +5,7 @@ use Rattle.market.specs.CaseFile.{caseOf}
 use Rattle.market.specs.Rows.{Zone}
 use Rattle.market.specs.Certificate.{certificateOf}
 use Rattle.market.specs.Outcome.{rowMet}
-use Rattle.records.proofs.Places.{zone-in, resources-is}
+use Rattle.case_records.proofs.Places.{zone-in, resources-is}
 use Rattle.rows.proofs.Search.{first-false}
 use Rattle.rows.proofs.Tests.{zone-tests}
 use borrow.Author.Needs.{needs}

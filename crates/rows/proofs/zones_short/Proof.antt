@@ -8,7 +8,7 @@ use Rattle.market.specs.CaseFile.{caseOf}
 use Rattle.market.specs.Certificate.{certificateOf}
 use Rattle.market.specs.Refusals.{clear, foundAt, firstFailing}
 use Rattle.market.specs.Outcome.{rowMet}
-use Rattle.records.proofs.Places.{zones-is}
+use Rattle.case_records.proofs.Places.{zones-is}
 use Rattle.prices.proofs.Known.{zone-below}
 use Rattle.reserves.specs.Given.{zoneTotal}
 use Rattle.arith.proofs.Tables.{table-entry}

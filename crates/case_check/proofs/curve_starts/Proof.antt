@@ -1,0 +1,31 @@
+-- `case_check::curve_starts` meets its contract. Assumes nothing.
+use mathlib.Core.Path.{_≡_, _∙_}
+use mathlib.Core.Bool.{true}
+use Prim.Native.Nat.{_+_, _*_}
+use native.Mathlib.Omega.{arith}
+use lib.IntN.{pos}
+use borrow.Author.Needs.{needs}
+use Rattle.market.specs.CaseCheck.{stepsFollow}
+use Rattle.market.specs.Bytes.{u32At}
+use Rattle.case_check.proofs.curve_starts.Statement.{statement}
+use Rattle.case_check.proofs.curve_starts.Tie as tie
+
+returns : tie.Need-returns
+returns c =
+    let v : 42 + c .before .before .before .before .args .curve * 32 ≡ 42 + c .before .before .before .before .args .curve * 32 + 0 = omega arith in
+    let w : 46 + c .before .before .before .before .args .curve * 32 ≡ 46 + c .before .before .before .before .args .curve * 32 + 0 = omega arith in
+    c .follows .ensures
+    ∙ rw (c .before .u32-at2 .ensures, c .before .before .u32-at .ensures) (λ i. stepsFollow (λ a d. true) 1 (pos 0) (u32At (c .before .before .before .before .args .b .now) (v i)) (pos (u32At (c .before .before .before .before .args .b .now) (w i))))
+
+pub curve-starts-spec : {M : Type 1} → statement M
+curve-starts-spec =
+    tie.close
+    (tie.spec
+    (λ c. search needs)
+    (λ c. search needs)
+    (λ c κs. search needs)
+    (λ c. search needs)
+    (λ c. search needs)
+    (λ c κs. search needs)
+    (λ c κs. search needs)
+    returns)

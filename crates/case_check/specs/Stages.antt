@@ -1,0 +1,49 @@
+-- The answer of the stages of the case check, and how one stage goes on from the earlier ones' answer
+-- (01, 'How each operation refuses').
+use mathlib.Core.Bool.{Bool, true, false}
+use mathlib.Core.List.{List}
+use mathlib.Core.Path.{_≡_}
+use Prim.Native.Nat.{ℕ}
+use Rattle.market.specs.declared.Refusal.{Refusal}
+use Rattle.market.specs.declared.Refusal.the-variants as R
+use Rattle.market.specs.declared.Counts.{Counts}
+use Rattle.market.specs.CaseFile.{leastCaseSize, caseOf}
+use Rattle.market.specs.CaseCheck.{lengthRight, versionRight, countsRight, caseSizeRight}
+use Rattle.market.specs.Records.{countsIn}
+use Rattle.market.specs.Refusals.{Finding, clear, holds}
+use Rattle.wire.specs.CaseBytes.{CaseBytes}
+use Rattle.case_check.specs.declared.Stage.{Stage}
+use Rattle.case_check.specs.declared.Stage.the-variants.{Passed, Refused}
+
+abbrev pub stageOf : Counts → Finding → Stage
+stageOf n clear = Passed n
+stageOf n (holds r) = Refused r
+
+-- one more test, where the earlier ones have passed; else their refusal
+unfoldable pub tested : Stage → Bool → Refusal → Stage
+tested (Passed n) true r = Passed n
+tested (Passed n) false r = Refused r
+tested (Refused w) t r = Refused w
+
+-- 1 to 4
+unfoldable pub shapeOf : List ℕ → Stage
+shapeOf b =
+    tested
+    (tested
+    (tested
+    (tested (Passed (countsIn (caseOf b))) (lengthRight leastCaseSize b) R.CaseLength)
+    (versionRight b)
+    R.CaseVersion)
+    (countsRight (caseOf b .resources) (caseOf b .zones) (caseOf b .flowgates))
+    R.Counts)
+    (caseSizeRight b (caseOf b))
+    R.CaseSize
+
+-- 1 to 4 have passed with these counts, or something was refused
+pub record Shaped (b : List ℕ) (s : Stage) : Type 0 where
+  pub bytes : (n : Counts) → s ≡ Passed n → CaseBytes b (n .resources) (n .zones) (n .flowgates)
+
+-- a stage's answer r after the earlier answer s: its test t on the bytes b, which refuses by w
+pub record Staged (b : List ℕ) (s : Stage) (t : Bool) (w : Refusal) (r : Stage) : Type 0 where
+  pub answer : r ≡ tested s t w
+  pub shaped : Shaped b r

@@ -1,0 +1,40 @@
+-- The program's lines, of records by value (market, specs/Program.antt has the same of a case and a certificate).
+use mathlib.Core.Bool.{Bool, cond}
+use mathlib.Core.List.{List, [], _∷_, _++_}
+use Prim.Native.Nat.{ℕ, suc}
+use lib.IntN.{ℤ, pos}
+use Rattle.market.specs.declared.Amounts.{Amounts}
+use Rattle.market.specs.declared.Grains.{Grains}
+use Rattle.market.specs.declared.Millicents.{Millicents}
+use Rattle.market.specs.declared.Valuation.{Valuation}
+use Rattle.market.specs.Program.{decimal, line, costWord, boundWord, gapWord, zoneWord, resourceLine, zoneLine}
+use Rattle.market.specs.Case.{Case}
+use Rattle.market.specs.Certificate.{Certificate}
+use Rattle.arith.specs.Sums.{upto, across}
+use Rattle.prices.specs.declared.ZonePrices.{ZonePrices}
+use Rattle.price_list.specs.Numbers.{numbersOf}
+
+abbrev pub truth : Bool → ℤ
+truth t = cond t (pos 1) (pos 0)
+
+abbrev pub valueLine : List ℕ → Grains → List ℕ
+valueLine word v = line word (v .0 ∷ [])
+
+unfoldable pub boundAndGap : Valuation → List ℕ
+boundAndGap v = valueLine boundWord (v .bound) ++ valueLine gapWord (v .gap)
+
+unfoldable pub headLines : Valuation → List ℕ
+headLines v = valueLine costWord (v .cost) ++ boundAndGap v
+
+-- e g c s o
+abbrev pub amountFigures : Amounts → List ℤ
+amountFigures a = a .energy .0 ∷ a .regulation .0 ∷ a .contingency .0 ∷ a .«on_line_short_term» .0 ∷ a .«off_line_short_term» .0 ∷ []
+
+unfoldable pub resourceText : ℕ → Bool → Amounts → Millicents → List ℕ
+resourceText i on a price = line (decimal (pos (suc i))) (truth on ∷ (amountFigures a ++ (price .0 ∷ [])))
+
+unfoldable pub zoneText : ℕ → ZonePrices → List ℕ
+zoneText z p = line zoneWord (pos (suc z) ∷ numbersOf p)
+
+unfoldable pub scheduleLines : Case → Certificate → List ℕ
+scheduleLines c k = across (resourceLine c k) (upto (c .resources)) ++ across (zoneLine k) (upto (c .zones))
