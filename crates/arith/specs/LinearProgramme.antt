@@ -17,26 +17,26 @@ pub record LinearProgramme (Row Column : Type 0) : Type 0 where
 
 module _ {Row Column : Type 0} (L : LinearProgramme Row Column) where
   unfoldable pub net : (Row → ℤ) → Column → ℤ
-  net y j = L .price j -ℤ sumOf (λ r. y r *ℤ L .coefficient r j) (L .rows)
+  net y column = L .price column -ℤ sumOf (λ row. y row *ℤ L .coefficient row column) (L .rows)
 
   unfoldable pub slack : (Column → ℤ) → Row → ℤ
-  slack x r = sumOf (λ j. L .coefficient r j *ℤ x j) (L .columns) -ℤ L .rightSide r
+  slack x row = sumOf (λ column. L .coefficient row column *ℤ x column) (L .columns) -ℤ L .rightSide row
 
   unfoldable pub cost : (Column → ℤ) → ℤ
-  cost x = sumOf (λ j. L .price j *ℤ x j) (L .columns)
+  cost x = sumOf (λ column. L .price column *ℤ x column) (L .columns)
 
   -- the least that a column between 0 and its upper bound can add at its net price
   unfoldable pub least : (Row → ℤ) → Column → ℤ
-  least y j = minℤ (pos 0) (net y j *ℤ L .upperBound j)
+  least y column = minℤ (pos 0) (net y column *ℤ L .upperBound column)
 
   unfoldable pub bound : (Row → ℤ) → ℤ
-  bound y = sumOf (λ r. y r *ℤ L .rightSide r) (L .rows) +ℤ sumOf (least y) (L .columns)
+  bound y = sumOf (λ row. y row *ℤ L .rightSide row) (L .rows) +ℤ sumOf (least y) (L .columns)
 
   unfoldable pub rowCharge : (Row → ℤ) → (Column → ℤ) → Row → ℤ
-  rowCharge y x r = y r *ℤ slack x r
+  rowCharge y x row = y row *ℤ slack x row
 
   unfoldable pub columnCharge : (Row → ℤ) → (Column → ℤ) → Column → ℤ
-  columnCharge y x j = net y j *ℤ x j -ℤ least y j
+  columnCharge y x column = net y column *ℤ x column -ℤ least y column
 
   -- rows, then columns
   unfoldable pub charges : (Row → ℤ) → (Column → ℤ) → List ℤ
@@ -44,10 +44,10 @@ module _ {Row Column : Type 0} (L : LinearProgramme Row Column) where
 
   -- a row is met with a price that is not negative, or met exactly at any price
   abbrev pub RowFits : (Row → ℤ) → (Column → ℤ) → Row → Type 0
-  RowFits y x r = ((pos 0 ≤ℤ y r) × (pos 0 ≤ℤ slack x r)) ⊎ (slack x r ≡ pos 0)
+  RowFits y x row = ((pos 0 ≤ℤ y row) × (pos 0 ≤ℤ slack x row)) ⊎ (slack x row ≡ pos 0)
 
   abbrev pub ColumnFits : (Column → ℤ) → Column → Type 0
-  ColumnFits x j = (pos 0 ≤ℤ x j) × (x j ≤ℤ L .upperBound j)
+  ColumnFits x column = (pos 0 ≤ℤ x column) × (x column ≤ℤ L .upperBound column)
 
   abbrev pub Feasible : (Row → ℤ) → (Column → ℤ) → Type 0
   Feasible y x = Each (RowFits y x) (L .rows) × Each (ColumnFits x) (L .columns)

@@ -6,7 +6,7 @@ use lib.IntN.{ℤ, pos, natAbs, _+ℤ_}
 use lib.Signed.{leZ}
 
 unfoldable pub minℤ : ℤ → ℤ → ℤ
-minℤ a b = cond (leZ a b) a b
+minℤ v v′ = cond (leZ v v′) v v′
 
 -- the numbers below n, in order; built from the end, as a loop goes through them
 unfoldable pub upto : ℕ → List ℕ
@@ -15,30 +15,30 @@ upto (suc n) = upto n ++ (n ∷ [])
 
 module _ {A : Type 0} where
   unfoldable pub sumOf : (A → ℤ) → List A → ℤ
-  sumOf f [] = pos 0
-  sumOf f (x ∷ xs) = f x +ℤ sumOf f xs
+  sumOf term [] = pos 0
+  sumOf term (e ∷ es) = term e +ℤ sumOf term es
 
   -- the same for natural numbers
   unfoldable pub totalOf : (A → ℕ) → List A → ℕ
-  totalOf f [] = 0
-  totalOf f (x ∷ xs) = f x + totalOf f xs
+  totalOf term [] = 0
+  totalOf term (e ∷ es) = term e + totalOf term es
 
   -- the sum of the terms' absolute values: no part of the sum is larger, in whatever order it is taken
   abbrev pub sizeOf : (A → ℤ) → List A → ℕ
-  sizeOf f = totalOf (λ x. natAbs (f x))
+  sizeOf term = totalOf (λ e. natAbs (term e))
 
-  -- Q holds of every element
+  -- it holds of every element
   abbrev pub Each : (A → Type 0) → List A → Type 0
-  Each Q [] = Unit {0}
-  Each Q (x ∷ xs) = Q x × Each Q xs
+  Each Holds [] = Unit {0}
+  Each Holds (e ∷ es) = Holds e × Each Holds es
 
   -- the test passes at every element
   unfoldable pub all : (A → Bool) → List A → Bool
-  all f [] = true
-  all f (x ∷ xs) = f x && all f xs
+  all test [] = true
+  all test (e ∷ es) = test e && all test es
 
 module _ {A B : Type 0} where
-  -- the lists that f gives the elements, end to end
+  -- the lists of the elements, end to end
   unfoldable pub across : (A → List B) → List A → List B
-  across f [] = []
-  across f (x ∷ xs) = f x ++ across f xs
+  across lists [] = []
+  across lists (e ∷ es) = lists e ++ across lists es

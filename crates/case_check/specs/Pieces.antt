@@ -11,13 +11,13 @@ use Rattle.market.specs.CaseCheck.{stepsFollow, stepsRight, neverFalls, neverRi
 
 -- ---- a resource's energy steps
 abbrev pub offerStarts : Resource → Bool
-offerStarts r = stepsFollow (λ a b. true) 1 (pos 0) (r .stepWidth 0) (r .stepPrice 0)
+offerStarts r = stepsFollow (λ v v′. true) 1 (pos 0) (r .stepWidth 0) (r .stepPrice 0)
 
 abbrev pub offerFollows : Resource → ℕ → Bool
 offerFollows r j = stepsFollow neverFalls (r .stepWidth j) (r .stepPrice j) (r .stepWidth (j + 1)) (r .stepPrice (j + 1))
 
 abbrev pub offerRight : List ℕ → ℕ → ℕ → Bool
-offerRight b z i = energyStepsRight (resourceAt b (resourcePlace z i))
+offerRight b zones i = energyStepsRight (resourceAt b (resourcePlace zones i))
 
 -- ---- the k-th curve's steps
 abbrev pub curveWidthAt : List ℕ → ℕ → ℕ → ℕ
@@ -27,7 +27,7 @@ abbrev pub curvePriceAt : List ℕ → ℕ → ℕ → ℤ
 curvePriceAt b k j = pos (u32At b (46 + k * 32 + j * 8))
 
 abbrev pub curveStarts : List ℕ → ℕ → Bool
-curveStarts b k = stepsFollow (λ a c. true) 1 (pos 0) (curveWidthAt b k 0) (curvePriceAt b k 0)
+curveStarts b k = stepsFollow (λ v v′. true) 1 (pos 0) (curveWidthAt b k 0) (curvePriceAt b k 0)
 
 abbrev pub curveFollows : List ℕ → ℕ → ℕ → Bool
 curveFollows b k j =
@@ -38,4 +38,4 @@ curveRight b k = stepsRight neverRises (curveWidthAt b k) (curvePriceAt b k) cur
 
 -- ---- a resource's pairs of limits
 abbrev pub limitsRight : List ℕ → ℕ → ℕ → Bool
-limitsRight b z i = pairsOrdered (resourceAt b (resourcePlace z i))
+limitsRight b zones i = pairsOrdered (resourceAt b (resourcePlace zones i))

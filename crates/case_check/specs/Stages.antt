@@ -17,13 +17,13 @@ use Rattle.case_check.specs.declared.Stage.the-variants.{Passed, Refused
 
 abbrev pub stageOf : Counts → Finding → Stage
 stageOf n clear = Passed n
-stageOf n (holds r) = Refused r
+stageOf n (holds why) = Refused why
 
 -- one more test, where the earlier ones have passed; else their refusal
 unfoldable pub tested : Stage → Bool → Refusal → Stage
-tested (Passed n) true r = Passed n
-tested (Passed n) false r = Refused r
-tested (Refused w) t r = Refused w
+tested (Passed n) true why = Passed n
+tested (Passed n) false why = Refused why
+tested (Refused why) t why′ = Refused why
 
 -- 1 to 4
 unfoldable pub shapeOf : List ℕ → Stage
@@ -40,10 +40,10 @@ shapeOf b =
     R.CaseSize
 
 -- 1 to 4 have passed with these counts, or something was refused
-pub record Shaped (b : List ℕ) (s : Stage) : Type 0 where
-  pub bytes : (n : Counts) → s ≡ Passed n → CaseBytes b (n .resources) (n .zones) (n .flowgates)
+pub record Shaped (b : List ℕ) (stage : Stage) : Type 0 where
+  pub bytes : (n : Counts) → stage ≡ Passed n → CaseBytes b (n .resources) (n .zones) (n .flowgates)
 
--- a stage's answer r after the earlier answer s: its test t on the bytes b, which refuses by w
-pub record Staged (b : List ℕ) (s : Stage) (t : Bool) (w : Refusal) (r : Stage) : Type 0 where
-  pub answer : r ≡ tested s t w
-  pub shaped : Shaped b r
+-- a stage after the earlier one: its test t on the bytes b, and why it refuses
+pub record Staged (b : List ℕ) (earlier : Stage) (t : Bool) (why : Refusal) (stage : Stage) : Type 0 where
+  pub answer : stage ≡ tested earlier t why
+  pub shaped : Shaped b stage

@@ -17,9 +17,9 @@ pub record Halved (n half most : ℕ) : Type 0 where
   pub largest : most < half
   pub width : half ≤ 2147483648
 
--- the k-th 32-bit number from the place p on
+-- the n-th 32-bit number from a place on
 abbrev pub numberAtMost : ℕ → List ℕ → ℕ → ℕ → Bool
-numberAtMost most b p k = within 0 most (u32At b (p + k * 4))
+numberAtMost most b at n = within 0 most (u32At b (at + n * 4))
 
 -- ---- parts of a resource's test
 abbrev pub stateInRange : ℕ → Resource → Bool
@@ -44,19 +44,19 @@ abbrev pub resourceNumberedInRange : Case → ℕ → Bool
 resourceNumberedInRange c i = resourceInRange (c .zones) (c .resource i)
 
 -- ---- where they stand
--- the figures of the reserve p: multiplier and minutes, share, requirement
-pub record ReserveAt (p : Reserve) (pair share requirement : ℕ) : Type 0 where
-  pub paired : pair ≡ pairPlace p
-  pub shared : share ≡ 24 + shareOrder p * 2
-  pub required : requirement ≡ 30 + shareOrder p * 4
+-- the figures of a reserve: multiplier and minutes, share, requirement
+pub record ReserveAt (reserve : Reserve) (pair share requirement : ℕ) : Type 0 where
+  pub paired : pair ≡ pairPlace reserve
+  pub shared : share ≡ 24 + shareOrder reserve * 2
+  pub required : requirement ≡ 30 + shareOrder reserve * 4
 
--- r resources lie within a file that counts z zones
+-- so many resources lie within a file that counts so many zones
 abbrev pub ResourcesIn : List ℕ → ℕ → ℕ → Type 0
-ResourcesIn b r z = (z ≡ u8At b 6) × Within b (zonePlace z) (r * resourceSize)
+ResourcesIn b resources zones = (zones ≡ u8At b 6) × Within b (zonePlace zones) (resources * resourceSize)
 
--- of the flowgate at p: its i-th factor, and all of it with r factors
+-- of the flowgate at a place: its i-th factor, and all of it with so many factors
 abbrev pub factorInRange : List ℕ → ℕ → ℕ → Bool
-factorInRange b p i = ± 1000 (i16At b (p + flowgateHeadSize + i * factorSize))
+factorInRange b at i = ± 1000 (i16At b (at + flowgateHeadSize + i * factorSize))
 
 abbrev pub flowgateInRangeAt : List ℕ → ℕ → ℕ → Bool
-flowgateInRangeAt b p r = ± 20000000 (i32At b p) && all (factorInRange b p) (upto r)
+flowgateInRangeAt b at resources = ± 20000000 (i32At b at) && all (factorInRange b at) (upto resources)

@@ -18,6 +18,6 @@ pub record CertificateBytes (q : List ℕ) (r z f : ℕ) : Type 0 where
   pub counts : CountsWithin r z f
   pub sized : length q ≡ certificateSize r z f
 
--- the prices of the rows that `row` names for each curve stand one behind the other from p on
+-- the prices of the rows that `row` names for each curve stand one behind the other from a place on
 abbrev pub PricesFrom : List ℕ → (Curve → Row) → ℕ → Type 0
-PricesFrom q row p = (k : Curve) → certificateOf q .price (row k) ≡ pos (u32At q (p + curveNumber k * 4))
+PricesFrom q row at = (k : Curve) → certificateOf q .price (row k) ≡ pos (u32At q (at + curveNumber k * 4))

@@ -9,7 +9,7 @@ unfoldable pub digitCount : ℕ → ℕ → ℕ
 digitCount zero n = 0
 digitCount (suc fuel) n = elim (ltb n 10) [ true ↦ 1 | false ↦ suc (digitCount fuel (n / 10)) ]
 
--- the last k, with zeros in front where n has fewer
+-- the last so many, with zeros in front where n has fewer
 unfoldable pub lastDigits : ℕ → ℕ → List ℕ
 lastDigits zero n = []
-lastDigits (suc k) n = lastDigits k (n / 10) ++ ((48 + n % 10) ∷ [])
+lastDigits (suc count) n = lastDigits count (n / 10) ++ ((48 + n % 10) ∷ [])

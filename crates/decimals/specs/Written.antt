@@ -6,7 +6,7 @@ use lib.ListN.{length, drop}
 
 -- the buffer holds the text and then what it held; the answer is the text's length
 abbrev pub Wrote : List ℕ → List ℕ → List ℕ → ℕ → Type 0
-Wrote text old new r = (r ≡ length text) × (new ≡ text ++ drop (length text) old)
+Wrote text old new n = (n ≡ length text) × (new ≡ text ++ drop (length text) old)
 
 -- a number of 64 bits, its sign beside it
 abbrev pub mostDigits : ℕ

@@ -27,17 +27,17 @@ OnLine r = onLine r ≡ true
 abbrev pub OffLine : Resource → Type 0
 OffLine r = onLine r ≡ false
 
--- n is one of them
+-- v is one of them
 module _ {A : Type 0} where
   abbrev pub OneOf : List A → A → Type 0
-  OneOf [] n = ⊥
-  OneOf (m ∷ ms) n = (n ≡ m) ⊎ OneOf ms n
+  OneOf [] v = ⊥
+  OneOf (v′ ∷ vs) v = (v ≡ v′) ⊎ OneOf vs v
 
 abbrev pub LeastOf : List ℕ → ℕ → Type 0
-LeastOf ms n = Each (λ m. n ≤ m) ms × OneOf ms n
+LeastOf vs v = Each (λ v′. v ≤ v′) vs × OneOf vs v
 
 abbrev pub LargestOf : List ℤ → ℤ → Type 0
-LargestOf ms n = Each (λ m. m ≤ℤ n) ms × OneOf ms n
+LargestOf vs v = Each (λ v′. v′ ≤ℤ v) vs × OneOf vs v
 
 -- ---- on-line
 abbrev pub Closed : Resource → Type 0
@@ -75,7 +75,7 @@ pub record LimitsInWords (r : Resource) : Type 0 where
 -- ---- upper bounds
 -- the least of RAMP, SHARE and MAX, with the reserve's own figures
 abbrev pub LeastOnLine : Case → Reserve → Resource → ℕ → Type 0
-LeastOnLine c p r = LeastOf (RAMP c p r ∷ SHARE c p ∷ MAX r ∷ [])
+LeastOnLine c reserve r = LeastOf (RAMP c reserve r ∷ SHARE c reserve ∷ MAX r ∷ [])
 
 pub record BoundsInWords (c : Case) (r : Resource) : Type 0 where
   -- on-line: e, the sum of its step widths; g, c, s the least of three, or 0 where the flag is clear; o 0

@@ -9,7 +9,7 @@ use Rattle.market.specs.Cost.{Priced, priced, quantityOf, offer, pricedU
 
 -- over all rows, row price × coefficient
 unfoldable pub rowValue : Case → Prices → Quantity → ℤ
-rowValue c y q = sumOf (λ r. y r *ℤ coefficient c r q) (rows c)
+rowValue c y a = sumOf (λ row. y row *ℤ coefficient c row a) (rows c)
 
 unfoldable pub netPrice : Case → Prices → Priced → ℤ
 netPrice c y p = pos 1000 *ℤ offer c p -ℤ rowValue c y (quantityOf p)
@@ -18,4 +18,4 @@ unfoldable pub lowest : Case → Prices → Priced → ℤ
 lowest c y p = minℤ (pos 0) (netPrice c y p *ℤ pos (pricedUpperBound c p))
 
 unfoldable pub bound : Case → Prices → ℤ
-bound c y = sumOf (λ r. y r *ℤ rightSide c r) (rows c) +ℤ sumOf (lowest c y) (priced c)
+bound c y = sumOf (λ row. y row *ℤ rightSide c row) (rows c) +ℤ sumOf (lowest c y) (priced c)

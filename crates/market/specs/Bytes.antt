@@ -9,23 +9,23 @@ use lib.IntN.{ℤ, pos, negℤ, _-ℤ_}
 use lib.Signed.{leZ}
 
 abbrev pub u8At : List ℕ → ℕ → ℕ
-u8At b p = getD b p 0
+u8At b at = getD b at 0
 
 abbrev pub u16At : List ℕ → ℕ → ℕ
-u16At b p = u8At b p * 256 + u8At b (p + 1)
+u16At b at = u8At b at * 256 + u8At b (at + 1)
 
 abbrev pub u32At : List ℕ → ℕ → ℕ
-u32At b p = u8At b p * 16777216 + u8At b (p + 1) * 65536 + u8At b (p + 2) * 256 + u8At b (p + 3)
+u32At b at = u8At b at * 16777216 + u8At b (at + 1) * 65536 + u8At b (at + 2) * 256 + u8At b (at + 3)
 
 -- two's complement: from half the range on, a number stands for itself less the range
 abbrev pub signed : ℕ → ℕ → ℤ
 signed half n = cond (ltb n half) (pos n) (pos n -ℤ pos (half + half))
 
 abbrev pub i16At : List ℕ → ℕ → ℤ
-i16At b p = signed 32768 (u16At b p)
+i16At b at = signed 32768 (u16At b at)
 
 abbrev pub i32At : List ℕ → ℕ → ℤ
-i32At b p = signed 2147483648 (u32At b p)
+i32At b at = signed 2147483648 (u32At b at)
 
 abbrev pub within : ℕ → ℕ → ℕ → Bool
 within low high n = leb low n && leb n high

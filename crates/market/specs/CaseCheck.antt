@@ -50,8 +50,8 @@ caseSizeRight b c = eqb (length b) (caseSize (c .resources) (c .zones) (c .flowg
 
 -- ---- 5: every field within its range
 unfoldable pub reserveInRange : Case → Reserve → Bool
-reserveInRange c p =
-    within 1 5000 (c .multiplier p) && within 1 60 (c .minutes p) && within 0 1000 (c .share p) && within 0 8000000 (c .requirement p)
+reserveInRange c reserve =
+    within 1 5000 (c .multiplier reserve) && within 1 60 (c .minutes reserve) && within 0 1000 (c .share reserve) && within 0 8000000 (c .requirement reserve)
 
 abbrev pub powers : Resource → List ℕ
 powers r =
@@ -89,21 +89,21 @@ fieldsInRange c =
 
 -- a step of this width and price, and the next, whose prices may stand in this order
 unfoldable pub stepsFollow : (ℤ → ℤ → Bool) → ℕ → ℤ → ℕ → ℤ → Bool
-stepsFollow may w p zero p′ = withinℤ (pos 0) (pos 0) p′
-stepsFollow may w p (suc w′) p′ = ltb 0 w && may p p′
+stepsFollow may w price zero price′ = withinℤ (pos 0) (pos 0) price′
+stepsFollow may w price (suc w′) price′ = ltb 0 w && may price price′
 
 unfoldable pub stepsRight : (ℤ → ℤ → Bool) → (ℕ → ℕ) → (ℕ → ℤ) → ℕ → Bool
-stepsRight may w p n =
-    stepsFollow (λ a b. true) 1 (pos 0) (w 0) (p 0)
-    && all (λ j. stepsFollow may (w j) (p j) (w (j + 1)) (p (j + 1))) (upto (n - 1))
+stepsRight may w price n =
+    stepsFollow (λ v v′. true) 1 (pos 0) (w 0) (price 0)
+    && all (λ j. stepsFollow may (w j) (price j) (w (j + 1)) (price (j + 1))) (upto (n - 1))
 
 -- energy prices never fall
 abbrev pub neverFalls : ℤ → ℤ → Bool
-neverFalls p p′ = leZ p p′
+neverFalls price price′ = leZ price price′
 
 -- curve prices never rise
 abbrev pub neverRises : ℤ → ℤ → Bool
-neverRises p p′ = leZ p′ p
+neverRises price price′ = leZ price′ price
 
 unfoldable pub energyStepsRight : Resource → Bool
 energyStepsRight r = stepsRight neverFalls (r .stepWidth) (r .stepPrice) energySteps && leb (widthOf (r .stepWidth) energySteps) 2000000

@@ -36,23 +36,23 @@ flowgateHeadSize = 4
 abbrev pub factorSize : ℕ
 factorSize = 2
 
--- with a factor for each of r resources
+-- with a factor for each resource
 abbrev pub flowgateSize : ℕ → ℕ
-flowgateSize r = flowgateHeadSize + r * factorSize
+flowgateSize resources = flowgateHeadSize + resources * factorSize
 
 abbrev pub zonePlace : ℕ → ℕ
 zonePlace z = headSize + z * zoneSize
 
--- after z zones
+-- after so many zones
 abbrev pub resourcePlace : ℕ → ℕ → ℕ
-resourcePlace z i = zonePlace z + i * resourceSize
+resourcePlace zones i = zonePlace zones + i * resourceSize
 
--- after z zones and r resources
+-- after so many zones and resources
 abbrev pub flowgatePlace : ℕ → ℕ → ℕ → ℕ
-flowgatePlace r z f = resourcePlace z r + f * flowgateSize r
+flowgatePlace resources zones f = resourcePlace zones resources + f * flowgateSize resources
 
 abbrev pub factorPlace : ℕ → ℕ → ℕ → ℕ → ℕ
-factorPlace r z f i = flowgatePlace r z f + flowgateHeadSize + i * factorSize
+factorPlace resources zones f i = flowgatePlace resources zones f + flowgateHeadSize + i * factorSize
 
 -- the file ends where one more flowgate would stand
 abbrev pub caseSize : ℕ → ℕ → ℕ → ℕ
@@ -63,33 +63,33 @@ abbrev pub leastCaseSize : ℕ
 leastCaseSize = headSize
 
 unfoldable pub resourceAt : List ℕ → ℕ → Resource
-resourceAt b p =
+resourceAt b at =
     record {
-      kind = u8At b p;
-      zone = u8At b (p + 1);
-      breaker = u8At b (p + 2);
-      status = u8At b (p + 3);
-      trip = u8At b (p + 4);
-      flags = u8At b (p + 5);
-      output = i32At b (p + 6);
-      economicMin = u32At b (p + 10);
-      economicMax = u32At b (p + 14);
-      regulatingMin = u32At b (p + 18);
-      regulatingMax = u32At b (p + 22);
-      emergencyMin = u32At b (p + 26);
-      emergencyMax = u32At b (p + 30);
-      rampUp = u32At b (p + 34);
-      rampDown = u32At b (p + 38);
-      rampRate = u32At b (p + 42);
-      initial = u32At b (p + 46);
-      offLineResponse = u32At b (p + 50);
-      offLineShortTerm = u32At b (p + 54);
-      selfSchedule = u32At b (p + 58);
-      regulatingPrice = u32At b (p + 62);
-      contingencyPrice = u32At b (p + 66);
-      offLineShortTermPrice = u32At b (p + 70);
-      stepWidth = λ j. u32At b (p + 74 + j * 8);
-      stepPrice = λ j. i32At b (p + 78 + j * 8);
+      kind = u8At b at;
+      zone = u8At b (at + 1);
+      breaker = u8At b (at + 2);
+      status = u8At b (at + 3);
+      trip = u8At b (at + 4);
+      flags = u8At b (at + 5);
+      output = i32At b (at + 6);
+      economicMin = u32At b (at + 10);
+      economicMax = u32At b (at + 14);
+      regulatingMin = u32At b (at + 18);
+      regulatingMax = u32At b (at + 22);
+      emergencyMin = u32At b (at + 26);
+      emergencyMax = u32At b (at + 30);
+      rampUp = u32At b (at + 34);
+      rampDown = u32At b (at + 38);
+      rampRate = u32At b (at + 42);
+      initial = u32At b (at + 46);
+      offLineResponse = u32At b (at + 50);
+      offLineShortTerm = u32At b (at + 54);
+      selfSchedule = u32At b (at + 58);
+      regulatingPrice = u32At b (at + 62);
+      contingencyPrice = u32At b (at + 66);
+      offLineShortTermPrice = u32At b (at + 70);
+      stepWidth = λ j. u32At b (at + 74 + j * 8);
+      stepPrice = λ j. i32At b (at + 78 + j * 8);
     }
 
 unfoldable pub caseOf : List ℕ → Case
@@ -99,10 +99,10 @@ caseOf b =
       zones = u8At b 6;
       flowgates = u8At b 7;
       demand = u32At b 8;
-      multiplier = λ p. u16At b (pairPlace p);
-      minutes = λ p. u16At b (pairPlace p + 2);
-      share = λ p. u16At b (24 + shareOrder p * 2);
-      requirement = λ p. u32At b (30 + shareOrder p * 4);
+      multiplier = λ reserve. u16At b (pairPlace reserve);
+      minutes = λ reserve. u16At b (pairPlace reserve + 2);
+      share = λ reserve. u16At b (24 + shareOrder reserve * 2);
+      requirement = λ reserve. u32At b (30 + shareOrder reserve * 4);
       curveWidth = λ k j. u32At b (42 + curveNumber k * 32 + j * 8);
       curvePrice = λ k j. u32At b (46 + curveNumber k * 32 + j * 8);
       zoneRequirement = λ z k. u32At b (zonePlace z + curveNumber k * 4);

@@ -39,13 +39,13 @@ entrySize = length services * 4 + length limits * 4
 abbrev pub zonePricesPlace : ℕ → ℕ
 zonePricesPlace z = certificateHeadSize + z * zonePricesSize
 
--- after z zones
+-- after so many zones
 abbrev pub flowgatePricePlace : ℕ → ℕ → ℕ
-flowgatePricePlace z f = zonePricesPlace z + f * flowgatePriceSize
+flowgatePricePlace zones f = zonePricesPlace zones + f * flowgatePriceSize
 
--- after z zones and f flowgates
+-- after so many zones and flowgates
 abbrev pub amountsPlace : ℕ → ℕ → ℕ → ℕ
-amountsPlace z f i = flowgatePricePlace z f + i * entrySize
+amountsPlace zones flowgates i = flowgatePricePlace zones flowgates + i * entrySize
 
 -- the file ends where one more resource's entries would stand
 abbrev pub certificateSize : ℕ → ℕ → ℕ → ℕ

@@ -14,7 +14,7 @@ abbrev pub gap : Case → Schedule → Prices → ℤ
 gap c x y = cost c x -ℤ bound c y
 
 unfoldable pub rowCharge : Case → Schedule → Prices → Row → ℤ
-rowCharge c x y r = y r *ℤ slack c x r
+rowCharge c x y row = y row *ℤ slack c x row
 
 unfoldable pub pricedCharge : Case → Schedule → Prices → Priced → ℤ
 pricedCharge c x y p = netPrice c y p *ℤ pos (part c x p) -ℤ lowest c y p

@@ -26,15 +26,15 @@ abbrev pub UpTo : ℕ → ℤ → Type 0
 UpTo n v = (pos 0 ≤ℤ v) × (v ≤ℤ pos n)
 
 abbrev pub EachAtMost : ℕ → List ℕ → Type 0
-EachAtMost most ns = Each (λ n. n ≤ most) ns
+EachAtMost most vs = Each (λ v. v ≤ most) vs
 
 -- ---- 5: ranges
 -- thousandths, minutes, thousandths, kW
-pub record ReserveWithin (c : Case) (p : Reserve) : Type 0 where
-  pub multiplier-within : Between 1 5000 (c .multiplier p)
-  pub minutes-within : Between 1 60 (c .minutes p)
-  pub share-within : c .share p ≤ 1000
-  pub requirement-within : c .requirement p ≤ 8000000
+pub record ReserveWithin (c : Case) (reserve : Reserve) : Type 0 where
+  pub multiplier-within : Between 1 5000 (c .multiplier reserve)
+  pub minutes-within : Between 1 60 (c .minutes reserve)
+  pub share-within : c .share reserve ≤ 1000
+  pub requirement-within : c .requirement reserve ≤ 8000000
 
 pub record ResourceWithin (zones : ℕ) (r : Resource) : Type 0 where
   pub kind-within : Between 1 3 (r .kind)
@@ -57,25 +57,25 @@ pub record FlowgateWithin (c : Case) (f : ℕ) : Type 0 where
 
 pub record FieldsWithin (c : Case) : Type 0 where
   pub demand-within : c .demand ≤ 128000000
-  pub reserves-within : (p : Reserve) → ReserveWithin c p
+  pub reserves-within : (reserve : Reserve) → ReserveWithin c reserve
   pub curves-within : (k : Curve) (j : ℕ) → j < 4 → (c .curveWidth k j ≤ 8000000) × (c .curvePrice k j ≤ 400000)
   pub zones-within : (z : ℕ) → z < c .zones → (k : Curve) → c .zoneRequirement z k ≤ 2000000
   pub resources-within : (i : ℕ) → i < c .resources → ResourceWithin (c .zones) (c .resource i)
   pub flowgates-within : (f : ℕ) → f < c .flowgates → FlowgateWithin c f
 
 -- ---- 6: n steps of these widths and prices, of which any two may stand in this order
-pub record StepsInOrder (May : ℤ → ℤ → Type 0) (w : ℕ → ℕ) (p : ℕ → ℤ) (n : ℕ) : Type 0 where
+pub record StepsInOrder (May : ℤ → ℤ → Type 0) (w : ℕ → ℕ) (price : ℕ → ℤ) (n : ℕ) : Type 0 where
   -- steps of width 0 come last
-  pub empty-last : (j k : ℕ) → j < k → k < n → w j ≡ 0 → w k ≡ 0
+  pub empty-last : (j j′ : ℕ) → j < j′ → j′ < n → w j ≡ 0 → w j′ ≡ 0
   -- with price 0
-  pub empty-free : (j : ℕ) → j < n → w j ≡ 0 → p j ≡ pos 0
-  pub prices-in-order : (j k : ℕ) → j < k → k < n → 0 < w j → 0 < w k → May (p j) (p k)
+  pub empty-free : (j : ℕ) → j < n → w j ≡ 0 → price j ≡ pos 0
+  pub prices-in-order : (j j′ : ℕ) → j < j′ → j′ < n → 0 < w j → 0 < w j′ → May (price j) (price j′)
 
 abbrev pub NeverFall : ℤ → ℤ → Type 0
-NeverFall p p′ = p ≤ℤ p′
+NeverFall price price′ = price ≤ℤ price′
 
 abbrev pub NeverRise : ℤ → ℤ → Type 0
-NeverRise p p′ = p′ ≤ℤ p
+NeverRise price price′ = price′ ≤ℤ price
 
 pub record StepsKept (c : Case) : Type 0 where
   pub curve-steps : (k : Curve) → StepsInOrder NeverRise (c .curveWidth k) (λ j. pos (c .curvePrice k j)) 4
@@ -95,8 +95,8 @@ pub record CheckInWords : Type 0 where
   pub steps : (c : Case) → T (stepsRule c) ↔ StepsKept c
   pub pairs : (c : Case) → T (limitsOrdered c) ↔ ((i : ℕ) → i < c .resources → PairsInOrder (c .resource i))
   -- 12: row 1's price ±400,000,000, a flowgate's 0..400,000 cents, others 0..400,000,000
-  pub balance-price : (k : Certificate) → T (priceRight k Balance) ↔ EitherWay 400000000 (k .price Balance)
-  pub flowgate-price : (k : Certificate) (f : ℕ) → T (priceRight k (Flowgate f)) ↔ UpTo 400000 (k .price (Flowgate f))
-  pub market-price : (k : Certificate) (l : Curve) → T (priceRight k (Market l)) ↔ UpTo 400000000 (k .price (Market l))
-  pub zone-price : (k : Certificate) (z : ℕ) (l : Curve) → T (priceRight k (Zone z l)) ↔ UpTo 400000000 (k .price (Zone z l))
-  pub limit-price : (k : Certificate) (i : ℕ) (l : Limit) → T (priceRight k (Limited i l)) ↔ UpTo 400000000 (k .price (Limited i l))
+  pub balance-price : (d : Certificate) → T (priceRight d Balance) ↔ EitherWay 400000000 (d .price Balance)
+  pub flowgate-price : (d : Certificate) (f : ℕ) → T (priceRight d (Flowgate f)) ↔ UpTo 400000 (d .price (Flowgate f))
+  pub market-price : (d : Certificate) (k : Curve) → T (priceRight d (Market k)) ↔ UpTo 400000000 (d .price (Market k))
+  pub zone-price : (d : Certificate) (z : ℕ) (k : Curve) → T (priceRight d (Zone z k)) ↔ UpTo 400000000 (d .price (Zone z k))
+  pub limit-price : (d : Certificate) (i : ℕ) (l : Limit) → T (priceRight d (Limited i l)) ↔ UpTo 400000000 (d .price (Limited i l))

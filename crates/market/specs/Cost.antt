@@ -59,9 +59,9 @@ pricedUpperBound c (EnergyStep i j) = cond (onLine (c .resource i)) (c .resource
 pricedUpperBound c (Whole i s) = serviceBound c (c .resource i) s
 pricedUpperBound c (CurveStep k j) = c .curveWidth k j
 
--- steps are filled in order: what of x fills step j
+-- steps are filled in order: what of the amount fills step j
 unfoldable pub filled : (ℕ → ℕ) → ℕ → ℕ → ℕ
-filled w x j = min (w j) (x - widthOf w j)
+filled w amount j = min (w j) (amount - widthOf w j)
 
 -- a step's amount is what fills it
 unfoldable pub part : Case → Schedule → Priced → ℕ

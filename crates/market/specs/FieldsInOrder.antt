@@ -15,7 +15,7 @@ use Rattle.market.specs.Numbers.{caseNumbers, certificateNumbers}
 -- ---- a case
 -- multiplier and minutes of a reserve
 abbrev pub pairFigures : Case → Reserve → List ℤ
-pairFigures c p = pos (c .multiplier p) ∷ pos (c .minutes p) ∷ []
+pairFigures c reserve = pos (c .multiplier reserve) ∷ pos (c .minutes reserve) ∷ []
 
 abbrev pub curveFigures : Case → Curve → List ℤ
 curveFigures c k = across (λ j. pos (c .curveWidth k j) ∷ pos (c .curvePrice k j) ∷ []) (upto curveSteps)
@@ -28,7 +28,7 @@ abbrev pub headFigures : Case → List ℤ
 headFigures c =
     pos (c .resources) ∷ pos (c .zones) ∷ pos (c .flowgates) ∷ pos (c .demand)
     ∷ across (pairFigures c) (contingencyReserve ∷ regulatingReserve ∷ shortTermReserve ∷ [])
-    ++ (map (λ p. pos (c .share p)) shareOrdered ++ (map (λ p. pos (c .requirement p)) shareOrdered ++ across (curveFigures c) curves))
+    ++ (map (λ reserve. pos (c .share reserve)) shareOrdered ++ (map (λ reserve. pos (c .requirement reserve)) shareOrdered ++ across (curveFigures c) curves))
 
 abbrev pub zoneFigures : Case → ℕ → List ℤ
 zoneFigures c z = map (λ k. pos (c .zoneRequirement z k)) curves
@@ -54,14 +54,14 @@ caseFigures c =
 
 -- ---- a certificate
 abbrev pub resourceClaims : Certificate → ℕ → List ℤ
-resourceClaims k i = map (λ s. pos (k .amount (Provided i s))) services ++ map (λ l. k .price (Limited i l)) limits
+resourceClaims d i = map (λ s. pos (d .amount (Provided i s))) services ++ map (λ l. d .price (Limited i l)) limits
 
 abbrev pub certificateFigures : Certificate → List ℤ
-certificateFigures k =
-    (pos (k .resources) ∷ pos (k .zones) ∷ pos (k .flowgates)
-    ∷ map (λ c. pos (k .amount (Cleared c))) curves ++ (k .price Balance ∷ map (λ c. k .price (Market c)) curves))
-    ++ (across (λ z. map (λ c. k .price (Zone z c)) curves) (upto (k .zones))
-    ++ (map (λ f. k .price (Flowgate f)) (upto (k .flowgates)) ++ across (resourceClaims k) (upto (k .resources))))
+certificateFigures d =
+    (pos (d .resources) ∷ pos (d .zones) ∷ pos (d .flowgates)
+    ∷ map (λ k. pos (d .amount (Cleared k))) curves ++ (d .price Balance ∷ map (λ k. d .price (Market k)) curves))
+    ++ (across (λ z. map (λ k. d .price (Zone z k)) curves) (upto (d .zones))
+    ++ (map (λ f. d .price (Flowgate f)) (upto (d .flowgates)) ++ across (resourceClaims d) (upto (d .resources))))
 
 pub record FieldsInOrder : Type 0 where
   pub case-in-order : (b : List ℕ) → caseNumbers b ≡ caseFigures (caseOf b)

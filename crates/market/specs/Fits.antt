@@ -29,11 +29,11 @@ Fits64 v = natAbs v < range64
 -- the terms' absolute values together: so every sum of some of the terms fits, in whatever order it is formed
 module _ {A : Type 0} where
   abbrev pub TermsFit : (A → ℤ) → List A → Type 0
-  TermsFit f xs = sizeOf f xs < range64
+  TermsFit term es = sizeOf term es < range64
 
   -- and with one number more
   abbrev pub TermsFitWith : ℤ → (A → ℤ) → List A → Type 0
-  TermsFitWith v f xs = natAbs v + sizeOf f xs < range64
+  TermsFitWith v term es = natAbs v + sizeOf term es < range64
 
 pub record SumsFit (c : Case) (x : Schedule) (y : Prices) : Type 0 where
   -- HI = initial + 5 × ramp up; of LO, initial - 5 × ramp down, the two together
@@ -43,22 +43,22 @@ pub record SumsFit (c : Case) (x : Schedule) (y : Prices) : Type 0 where
   pub energy-widths : Each (λ i. TermsFit (λ j. pos (c .resource i .stepWidth j)) (upto energySteps)) (upto (c .resources))
   pub curve-widths : Each (λ k. TermsFit (λ j. pos (c .curveWidth k j)) (upto curveSteps)) curves
   -- RAMP = ramp rate × t × 1000 / m and SHARE = share × requirement / 1000: the products, before they are divided
-  pub ramp-products : Each (λ p. Each (λ i. Fits64 (pos (c .resource i .rampRate * c .minutes p * 1000))) (upto (c .resources))) reserves
-  pub share-products : Each (λ p. Fits64 (pos (c .share p * c .requirement p))) reserves
+  pub ramp-products : Each (λ reserve. Each (λ i. Fits64 (pos (c .resource i .rampRate * c .minutes reserve * 1000))) (upto (c .resources))) reserves
+  pub share-products : Each (λ reserve. Fits64 (pos (c .share reserve * c .requirement reserve))) reserves
   -- cost
   pub cost-terms : TermsFit (λ p. pos 1000 *ℤ (offer c p *ℤ pos (part c x p))) (priced c)
   pub cost-fits : Fits64 (cost c x)
   -- each row: its left side, and its slack, left side less right side (a flowgate's is 1000 × limit)
-  pub slack-terms : Each (λ r. TermsFitWith (rightSide c r) (λ q. coefficient c r q *ℤ pos (x q)) (quantities c)) (rows c)
-  pub left-fits : Each (λ r. Fits64 (leftSide c x r)) (rows c)
-  pub slack-fits : Each (λ r. Fits64 (slack c x r)) (rows c)
+  pub slack-terms : Each (λ row. TermsFitWith (rightSide c row) (λ a. coefficient c row a *ℤ pos (x a)) (quantities c)) (rows c)
+  pub left-fits : Each (λ row. Fits64 (leftSide c x row)) (rows c)
+  pub slack-fits : Each (λ row. Fits64 (slack c x row)) (rows c)
   -- each net price: 1000 × its price less, over all rows, row price × coefficient
   pub offer-fits : Each (λ p. Fits64 (pos 1000 *ℤ offer c p)) (priced c)
-  pub net-terms : Each (λ p. TermsFitWith (pos 1000 *ℤ offer c p) (λ r. y r *ℤ coefficient c r (quantityOf p)) (rows c)) (priced c)
+  pub net-terms : Each (λ p. TermsFitWith (pos 1000 *ℤ offer c p) (λ row. y row *ℤ coefficient c row (quantityOf p)) (rows c)) (priced c)
   pub net-fits : Each (λ p. Fits64 (netPrice c y p)) (priced c)
   -- the bound: all of its terms together
   pub product-terms : TermsFit (λ p. netPrice c y p *ℤ pos (pricedUpperBound c p)) (priced c)
-  pub bound-terms : (sizeOf (λ r. y r *ℤ rightSide c r) (rows c) + sizeOf (lowest c y) (priced c)) < range64
+  pub bound-terms : (sizeOf (λ row. y row *ℤ rightSide c row) (rows c) + sizeOf (lowest c y) (priced c)) < range64
   pub bound-fits : Fits64 (bound c y)
   pub gap-fits : Fits64 (gap c x y)
   -- each charge, and of a priced quantity's the product net price × amount

@@ -19,12 +19,12 @@ use Rattle.market.specs.Prices.{LMP, zoneRegulatingPrice, zoneSpinningPr
 abbrev pub kwOf : Schedule → ℕ → Service → ℤ
 kwOf x i s = pos (x (Provided i s))
 
--- what a resource that provides v gives to a reserve row: g+c, g+spin, g, s+o
+-- what a resource gives to a reserve row, of what it provides: g+c, g+spin, g, s+o
 abbrev pub reserveGiven : Resource → Curve → (Service → ℤ) → ℤ
-reserveGiven r operating v = v regulation +ℤ v contingency
-reserveGiven r regulatingPlusSpinning v = v regulation +ℤ cond (isSpinning r) (v contingency) (pos 0)
-reserveGiven r regulating v = v regulation
-reserveGiven r shortTerm v = v onLineShortTerm +ℤ v offLineShortTerm
+reserveGiven r operating provided = provided regulation +ℤ provided contingency
+reserveGiven r regulatingPlusSpinning provided = provided regulation +ℤ cond (isSpinning r) (provided contingency) (pos 0)
+reserveGiven r regulating provided = provided regulation
+reserveGiven r shortTerm provided = provided onLineShortTerm +ℤ provided offLineShortTerm
 
 abbrev pub reserveOf : Case → Schedule → Curve → ℕ → ℤ
 reserveOf c x k i = reserveGiven (c .resource i) k (kwOf x i)

@@ -19,9 +19,9 @@ K =
 abbrev pub Q : List ℕ
 Q = u32Bytes 96 ++ (1 ∷ 1 ∷ 1 ∷ 0 ∷ []) ++ zeros 16 ++ u32Bytes 3000000 ++ zeros 16 ++ zeros 16 ++ u32Bytes 60000 ++ zeros 36
 
--- b with these bytes from place p on
+-- b with these bytes from the place on
 abbrev pub change : ℕ → List ℕ → List ℕ → List ℕ
-change p new b = take p b ++ (new ++ drop (p + length new) b)
+change at new b = take at b ++ (new ++ drop (at + length new) b)
 
 -- -n in two's complement
 abbrev pub minus32 : ℕ → List ℕ

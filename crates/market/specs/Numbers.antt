@@ -43,13 +43,13 @@ fieldHigh u32 = pos 4294967295
 fieldHigh i16 = pos 32767
 fieldHigh i32 = pos 2147483647
 
--- the number that stands at place p
+-- the number that stands at a place
 unfoldable pub fieldAt : Field → List ℕ → ℕ → ℤ
-fieldAt u8 b p = pos (u8At b p)
-fieldAt u16 b p = pos (u16At b p)
-fieldAt u32 b p = pos (u32At b p)
-fieldAt i16 b p = i16At b p
-fieldAt i32 b p = i32At b p
+fieldAt u8 b at = pos (u8At b at)
+fieldAt u16 b at = pos (u16At b at)
+fieldAt u32 b at = pos (u32At b at)
+fieldAt i16 b at = i16At b at
+fieldAt i32 b at = i32At b at
 
 -- two's complement: a number below 0 is written as itself plus the range
 abbrev pub unsigned : ℕ → ℤ → ℕ
@@ -71,24 +71,24 @@ fieldBytes i32 v = u32Bytes (unsigned 4294967296 v)
 
 -- ---- lists of fields
 unfoldable pub numbersAt : List Field → List ℕ → ℕ → List ℤ
-numbersAt [] b p = []
-numbersAt (f ∷ fs) b p = fieldAt f b p ∷ numbersAt fs b (p + fieldWidth f)
+numbersAt [] b at = []
+numbersAt (field ∷ fields) b at = fieldAt field b at ∷ numbersAt fields b (at + fieldWidth field)
 
 unfoldable pub bytesOf : List Field → List ℤ → List ℕ
 bytesOf [] vs = []
-bytesOf (f ∷ fs) [] = []
-bytesOf (f ∷ fs) (v ∷ vs) = fieldBytes f v ++ bytesOf fs vs
+bytesOf (field ∷ fields) [] = []
+bytesOf (field ∷ fields) (v ∷ vs) = fieldBytes field v ++ bytesOf fields vs
 
 -- as many numbers as fields, each fitting its field
 unfoldable pub numbersFit : List Field → List ℤ → Bool
 numbersFit [] [] = true
 numbersFit [] (v ∷ vs) = false
-numbersFit (f ∷ fs) [] = false
-numbersFit (f ∷ fs) (v ∷ vs) = withinℤ (fieldLow f) (fieldHigh f) v && numbersFit fs vs
+numbersFit (field ∷ fields) [] = false
+numbersFit (field ∷ fields) (v ∷ vs) = withinℤ (fieldLow field) (fieldHigh field) v && numbersFit fields vs
 
 -- ---- the fields of the two files, after length and version
 unfoldable pub times : ℕ → List Field → List Field
-times n fs = across (λ i. fs) (upto n)
+times n fields = across (λ n′. fields) (upto n)
 
 abbrev pub headFields : List Field
 headFields = u8 ∷ u8 ∷ u8 ∷ u32 ∷ replicate 9 u16 ++ replicate 35 u32
@@ -101,7 +101,7 @@ abbrev pub resourceFields : List Field
 resourceFields = replicate 6 u8 ++ (i32 ∷ replicate 16 u32 ++ times energySteps (u32 ∷ i32 ∷ []))
 
 abbrev pub flowgateFields : ℕ → List Field
-flowgateFields r = i32 ∷ replicate r i16
+flowgateFields resources = i32 ∷ replicate resources i16
 
 unfoldable pub caseFields : ℕ → ℕ → ℕ → List Field
 caseFields r z f = headFields ++ (times z curveFields ++ (times r resourceFields ++ times f (flowgateFields r)))
@@ -118,7 +118,7 @@ certificateFields r z f = certificateHeadFields ++ (times z curveFields ++ (time
 
 -- length, version 1, fields
 unfoldable pub fileOf : List Field → List ℤ → List ℕ
-fileOf fs vs = u32Bytes (1 + totalOf fieldWidth fs) ++ (1 ∷ bytesOf fs vs)
+fileOf fields vs = u32Bytes (1 + totalOf fieldWidth fields) ++ (1 ∷ bytesOf fields vs)
 
 -- ---- read into numbers: a case 1 to 7, a certificate 8, 9, 3, 11; then 15
 abbrev pub FieldsOf : Type 0
@@ -162,7 +162,7 @@ readCertificateBuffer q old = bufferAfter (firstOf (readCertificateGrounds q (le
 
 -- ---- write from numbers: 16 if under three; 3; 16, list length wrong or a number not fitting its field
 abbrev pub countIn : List ℤ → ℕ → ℕ
-countIn vs k = natAbs (getD vs k (pos 0))
+countIn vs n = natAbs (getD vs n (pos 0))
 
 -- R, Z and F are the first three numbers
 unfoldable pub countsInRange : List ℤ → Bool

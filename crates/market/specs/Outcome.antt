@@ -46,30 +46,30 @@ Valid b = AllClear (caseGrounds b)
 
 -- ---- check a certificate, of the bytes q, against the case c: 8 to 14
 unfoldable pub sameCounts : Case → Certificate → Bool
-sameCounts c k = eqb (k .resources) (c .resources) && eqb (k .zones) (c .zones) && eqb (k .flowgates) (c .flowgates)
+sameCounts c d = eqb (d .resources) (c .resources) && eqb (d .zones) (c .zones) && eqb (d .flowgates) (c .flowgates)
 
 abbrev pub priceRight : Certificate → Row → Bool
-priceRight k r = withinℤ (lowestPrice (sense r) (highestPrice r)) (pos (highestPrice r)) (k .price r)
+priceRight d row = withinℤ (lowestPrice (sense row) (highestPrice row)) (pos (highestPrice row)) (d .price row)
 
 abbrev pub withinBound : Case → Certificate → Quantity → Bool
-withinBound c k a = leb (k .amount a) (upperBound c a)
+withinBound c d a = leb (d .amount a) (upperBound c a)
 
 abbrev pub meets : Sense → ℤ → Bool
-meets equal s = withinℤ (pos 0) (pos 0) s
-meets atLeast s = leZ (pos 0) s
+meets equal v = withinℤ (pos 0) (pos 0) v
+meets atLeast v = leZ (pos 0) v
 
 abbrev pub rowMet : Case → Certificate → Row → Bool
-rowMet c k r = meets (sense r) (slack c (k .amount) r)
+rowMet c d row = meets (sense row) (slack c (d .amount) row)
 
 unfoldable pub certificateGrounds : Case → List ℕ → Certificate → List Finding
-certificateGrounds c q k =
+certificateGrounds c q d =
     unless (lengthRight leastCertificateSize q) CertificateLength
     ∷ unless (versionRight q) CertificateVersion
-    ∷ unless (sameCounts c k) CountsDiffer
+    ∷ unless (sameCounts c d) CountsDiffer
     ∷ unless (eqb (length q) (certificateSize (c .resources) (c .zones) (c .flowgates))) CertificateSize
-    ∷ unless (all (priceRight k) (rows c)) PriceRange
-    ∷ firstFailing (withinBound c k) AboveBound 1 (quantities c)
-    ∷ firstFailing (rowMet c k) RowBroken 1 (rows c)
+    ∷ unless (all (priceRight d) (rows c)) PriceRange
+    ∷ firstFailing (withinBound c d) AboveBound 1 (quantities c)
+    ∷ firstFailing (rowMet c d) RowBroken 1 (rows c)
     ∷ []
 
 abbrev pub grounds : List ℕ → List ℕ → List Finding
@@ -80,7 +80,7 @@ valued cost bound gap = record { cost = record { 0 = cost }; bound = record { 0 
 
 -- success returns cost, bound and gap
 unfoldable pub valuation : Case → Certificate → Valuation
-valuation c k = valued (cost c (k .amount)) (bound c (k .price)) (gap c (k .amount) (k .price))
+valuation c d = valued (cost c (d .amount)) (bound c (d .price)) (gap c (d .amount) (d .price))
 
 unfoldable pub outcome : List ℕ → List ℕ → Outcome
 outcome b q = outcomeOf (valuation (caseOf b) (certificateOf q)) (firstOf (grounds b q))

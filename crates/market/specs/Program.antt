@@ -62,29 +62,29 @@ printedServices = energy ∷ regulation ∷ contingency ∷ onLineShortTerm ∷ 
 
 -- number, on-line, e g c s o, LMP
 unfoldable pub resourceLine : Case → Certificate → ℕ → List ℕ
-resourceLine c k i =
+resourceLine c d i =
     line (decimal (pos (suc i)))
-    (cond (onLine (c .resource i)) (pos 1) (pos 0) ∷ (map (λ s. pos (k .amount (Provided i s))) printedServices ++ (LMP c (k .price) i ∷ [])))
+    (cond (onLine (c .resource i)) (pos 1) (pos 0) ∷ (map (λ s. pos (d .amount (Provided i s))) printedServices ++ (LMP c (d .price) i ∷ [])))
 
 -- number, four prices
 unfoldable pub zoneLine : Certificate → ℕ → List ℕ
-zoneLine k z = line zoneWord (pos (suc z) ∷ zonePrices (k .price) z)
+zoneLine d z = line zoneWord (pos (suc z) ∷ zonePrices (d .price) z)
 
 -- a place, if there is one
 abbrev pub placeFigures : ℕ → List ℤ
 placeFigures zero = []
-placeFigures (suc p) = pos (suc p) ∷ []
+placeFigures (suc at) = pos (suc at) ∷ []
 
 unfoldable pub refusalLine : Refusal → List ℕ
-refusalLine r = line refusedWord (pos (numberOf r) ∷ placeFigures (placeOf r))
+refusalLine why = line refusedWord (pos (numberOf why) ∷ placeFigures (placeOf why))
 
 unfoldable pub report : Case → Certificate → Outcome → List ℕ
-report c k (Refused r) = refusalLine r
-report c k (Accepted v) =
-    line costWord (v .cost .0 ∷ [])
-    ++ (line boundWord (v .bound .0 ∷ [])
-    ++ (line gapWord (v .gap .0 ∷ [])
-    ++ (across (resourceLine c k) (upto (c .resources)) ++ across (zoneLine k) (upto (c .zones)))))
+report c d (Refused why) = refusalLine why
+report c d (Accepted values) =
+    line costWord (values .cost .0 ∷ [])
+    ++ (line boundWord (values .bound .0 ∷ [])
+    ++ (line gapWord (values .gap .0 ∷ [])
+    ++ (across (resourceLine c d) (upto (c .resources)) ++ across (zoneLine d) (upto (c .zones)))))
 
 -- ---- input: the case is the first 4 + length bytes, or all if fewer; the rest is the certificate
 abbrev pub caseIn : List ℕ → List ℕ
@@ -105,7 +105,7 @@ programGrounds input = inputGround input ∷ grounds (caseIn input) (certificate
 
 abbrev pub printedOf : List ℕ → Finding → List ℕ
 printedOf input clear = report (caseOf (caseIn input)) (certificateOf (certificateIn input)) (outcome (caseIn input) (certificateIn input))
-printedOf input (holds r) = refusalLine r
+printedOf input (holds why) = refusalLine why
 
 unfoldable pub printed : List ℕ → List ℕ
 printed input = printedOf input (inputGround input)

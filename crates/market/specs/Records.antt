@@ -128,8 +128,8 @@ recordOf r =
 
 -- what a case says of a reserve
 unfoldable pub reserveTermsOf : Case → Reserve → ReserveTerms
-reserveTermsOf c p =
-    record { multiplier = thousandths (c .multiplier p); minutes = minutes (c .minutes p); share = thousandths (c .share p); requirement = power (c .requirement p) }
+reserveTermsOf c reserve =
+    record { multiplier = thousandths (c .multiplier reserve); minutes = minutes (c .minutes reserve); share = thousandths (c .share reserve); requirement = power (c .requirement reserve) }
 
 unfoldable pub termsOf : Case → Terms
 termsOf c =
@@ -176,23 +176,23 @@ limitPricesOf y i =
 
 -- a figure for each curve
 abbrev pub curveAmountsOf : (Curve → ℤ) → CurveAmounts
-curveAmountsOf v =
+curveAmountsOf figure =
     record {
-      operating = kw (v operating);
-      «regulating_plus_spinning» = kw (v regulatingPlusSpinning);
-      regulating = kw (v regulating);
-      «short_term» = kw (v shortTerm);
+      operating = kw (figure operating);
+      «regulating_plus_spinning» = kw (figure regulatingPlusSpinning);
+      regulating = kw (figure regulating);
+      «short_term» = kw (figure shortTerm);
     }
 
 unfoldable pub clearedOf : Schedule → CurveAmounts
 clearedOf x = curveAmountsOf (λ k. pos (x (Cleared k)))
 
--- of the rows that `row` names for each curve: Market, or Zone z
+-- of the rows that `rowOf` names for each curve: Market, or Zone z
 unfoldable pub reservePricesOf : Prices → (Curve → Row) → ReservePrices
-reservePricesOf y row =
+reservePricesOf y rowOf =
     record {
-      operating = millicents (y (row operating));
-      «regulating_plus_spinning» = millicents (y (row regulatingPlusSpinning));
-      regulating = millicents (y (row regulating));
-      «short_term» = millicents (y (row shortTerm));
+      operating = millicents (y (rowOf operating));
+      «regulating_plus_spinning» = millicents (y (rowOf regulatingPlusSpinning));
+      regulating = millicents (y (rowOf regulating));
+      «short_term» = millicents (y (rowOf shortTerm));
     }

@@ -36,8 +36,8 @@ numberOf CertificateVersion = 9
 numberOf CountsDiffer = 10
 numberOf CertificateSize = 11
 numberOf PriceRange = 12
-numberOf (AboveBound place) = 13
-numberOf (RowBroken row) = 14
+numberOf (AboveBound at) = 13
+numberOf (RowBroken at) = 14
 numberOf BufferShort = 15
 numberOf NumberList = 16
 numberOf InputLength = 17
@@ -56,8 +56,8 @@ placeOf CertificateVersion = 0
 placeOf CountsDiffer = 0
 placeOf CertificateSize = 0
 placeOf PriceRange = 0
-placeOf (AboveBound place) = place
-placeOf (RowBroken row) = row
+placeOf (AboveBound at) = at
+placeOf (RowBroken at) = at
 placeOf BufferShort = 0
 placeOf NumberList = 0
 placeOf InputLength = 0
@@ -65,19 +65,19 @@ placeOf InputLength = 0
 -- ---- what a C host receives for every case of every answer; 0 is success
 abbrev pub caseNumberOf : CaseAnswer → ℕ
 caseNumberOf C.Valid = 0
-caseNumberOf (C.Refused r) = numberOf r
+caseNumberOf (C.Refused why) = numberOf why
 
 abbrev pub resultOf : Outcome → CheckResult
-resultOf (O.Accepted v) = record { refusal = 0; place = 0; cost = v .cost .0; bound = v .bound .0; gap = v .gap .0 }
-resultOf (O.Refused r) = record { refusal = numberOf r; place = placeOf r; cost = pos 0; bound = pos 0; gap = pos 0 }
+resultOf (O.Accepted values) = record { refusal = 0; place = 0; cost = values .cost .0; bound = values .bound .0; gap = values .gap .0 }
+resultOf (O.Refused why) = record { refusal = numberOf why; place = placeOf why; cost = pos 0; bound = pos 0; gap = pos 0 }
 
 abbrev pub answerOf : Delivery → Answer
 answerOf D.Delivered = record { refusal = 0; place = 0 }
-answerOf (D.Refused r) = record { refusal = numberOf r; place = placeOf r }
+answerOf (D.Refused why) = record { refusal = numberOf why; place = placeOf why }
 
 abbrev pub countOf : Transfer → Count
 countOf (W.Written n) = record { refusal = 0; count = n }
-countOf (W.Refused r) = record { refusal = numberOf r; count = 0 }
+countOf (W.Refused why) = record { refusal = numberOf why; count = 0 }
 
 -- ---- grounds: what each test finds, in the order in which they refuse
 pub data Finding : Type 0 where
@@ -86,47 +86,47 @@ pub data Finding : Type 0 where
 
 -- the ground holds unless the test passes
 abbrev pub unless : Bool → Refusal → Finding
-unless true r = clear
-unless false r = holds r
+unless true why = clear
+unless false why = holds why
 
 -- the first element that fails the test, by its place, counted from n
 module _ {A : Type 0} where
   unfoldable pub firstFailing : (A → Bool) → (ℕ → Refusal) → ℕ → List A → Finding
-  firstFailing f r n [] = clear
-  firstFailing f r n (x ∷ xs) = elim (f x) [ true ↦ firstFailing f r (suc n) xs | false ↦ holds (r n) ]
+  firstFailing test whyAt n [] = clear
+  firstFailing test whyAt n (e ∷ es) = elim (test e) [ true ↦ firstFailing test whyAt (suc n) es | false ↦ holds (whyAt n) ]
 
 -- what a search for the first one answers
 abbrev pub foundAt : (ℕ → Refusal) → First → Finding
-foundAt r None = clear
-foundAt r (At p) = holds (r p)
+foundAt whyAt None = clear
+foundAt whyAt (At at) = holds (whyAt at)
 
 unfoldable pub firstOf : List Finding → Finding
 firstOf [] = clear
 firstOf (clear ∷ gs) = firstOf gs
-firstOf (holds r ∷ gs) = holds r
+firstOf (holds why ∷ gs) = holds why
 
 -- the answers that a finding gives
 abbrev pub caseAnswerOf : Finding → CaseAnswer
 caseAnswerOf clear = C.Valid
-caseAnswerOf (holds r) = C.Refused r
+caseAnswerOf (holds why) = C.Refused why
 
 abbrev pub outcomeOf : Valuation → Finding → Outcome
-outcomeOf v clear = O.Accepted v
-outcomeOf v (holds r) = O.Refused r
+outcomeOf values clear = O.Accepted values
+outcomeOf values (holds why) = O.Refused why
 
 abbrev pub deliveryOf : Finding → Delivery
 deliveryOf clear = D.Delivered
-deliveryOf (holds r) = D.Refused r
+deliveryOf (holds why) = D.Refused why
 
 abbrev pub transferOf : ℕ → Finding → Transfer
 transferOf n clear = W.Written n
-transferOf n (holds r) = W.Refused r
+transferOf n (holds why) = W.Refused why
 
--- ---- for the reader: refused on r exactly when that ground holds and no earlier one does
-pub record FirstHolds (gs : List Finding) (r : Refusal) : Type 0 where
+-- ---- for the reader: refused on a ground exactly when that ground holds and no earlier one does
+pub record FirstHolds (gs : List Finding) (why : Refusal) : Type 0 where
   pub earlier : List Finding
   pub later : List Finding
-  pub are : gs ≡ earlier ++ (holds r ∷ later)
+  pub are : gs ≡ earlier ++ (holds why ∷ later)
   pub clear-before : Each (λ g. g ≡ clear) earlier
 
 abbrev pub AllClear : List Finding → Type 0
@@ -136,4 +136,4 @@ AllClear gs = Each (λ g. g ≡ clear) gs
 module _ {A : Type 0} where
   abbrev pub bufferAfter : Finding → List A → List A → List A
   bufferAfter clear new old = new ++ drop (length new) old
-  bufferAfter (holds r) new old = old
+  bufferAfter (holds why) new old = old

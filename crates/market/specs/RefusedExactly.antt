@@ -30,17 +30,17 @@ acceptedText b q = report (caseOf b) (certificateOf q) (O.Accepted (valuation (c
 
 -- an operation with these grounds, its answer, what it answers on a refusal, and what on success
 pub record Exactly {A : Type 0} (gs : List Finding) (answer : A) (refused : Refusal → A) (success : A) : Type 0 where
-  pub refused-exactly : (r : Refusal) → (answer ≡ refused r) ↔ FirstHolds gs r
+  pub refused-exactly : (why : Refusal) → (answer ≡ refused why) ↔ FirstHolds gs why
   pub success-exactly : (answer ≡ success) ↔ AllClear gs
 
 -- ---- the places of 13 and 14
--- at place p of a list, counted from n, stands an element that fails, and every earlier one passes
-pub record FirstAt {A : Type 0} (Fails Passes : A → Type 0) (n : ℕ) (xs : List A) (p : ℕ) : Type 0 where
+-- at a place of a list, counted from n, stands an element that fails, and every earlier one passes
+pub record FirstAt {A : Type 0} (Fails Passes : A → Type 0) (n : ℕ) (es : List A) (at : ℕ) : Type 0 where
   pub before : List A
   pub this : A
   pub after : List A
-  pub are : xs ≡ before ++ (this ∷ after)
-  pub place : p ≡ n + length before
+  pub are : es ≡ before ++ (this ∷ after)
+  pub place : at ≡ n + length before
   pub fails : Fails this
   pub pass : Each Passes before
 
@@ -51,25 +51,25 @@ abbrev pub WithinItsBound : Case → Schedule → Quantity → Type 0
 WithinItsBound c x a = x a ≤ upperBound c a
 
 abbrev pub IsMet : Case → Schedule → Row → Type 0
-IsMet c x r = Meets (sense r) (slack c x r)
+IsMet c x row = Meets (sense row) (slack c x row)
 
 abbrev pub IsBroken : Case → Schedule → Row → Type 0
-IsBroken c x r = ¬ (IsMet c x r)
+IsBroken c x row = ¬ (IsMet c x row)
 
--- none of 1 to 12 holds, and quantity p (cleared 1 to 4, then five per resource) is the first above its bound
-pub record AboveBoundAt (b q : List ℕ) (p : ℕ) : Type 0 where
+-- none of 1 to 12 holds, and the quantity at the place (cleared 1 to 4, then five per resource) is the first above its bound
+pub record AboveBoundAt (b q : List ℕ) (at : ℕ) : Type 0 where
   pub none-earlier : AllClear (take 12 (grounds b q))
-  pub first-above : FirstAt (AboveItsBound (caseOf b) (certificateOf q .amount)) (WithinItsBound (caseOf b) (certificateOf q .amount)) 1 (quantities (caseOf b)) p
+  pub first-above : FirstAt (AboveItsBound (caseOf b) (certificateOf q .amount)) (WithinItsBound (caseOf b) (certificateOf q .amount)) 1 (quantities (caseOf b)) at
 
--- none of 1 to 13 holds, and row p is the first that is broken
-pub record RowBrokenAt (b q : List ℕ) (p : ℕ) : Type 0 where
+-- none of 1 to 13 holds, and the row at the place is the first that is broken
+pub record RowBrokenAt (b q : List ℕ) (at : ℕ) : Type 0 where
   pub none-earlier : AllClear (take 13 (grounds b q))
-  pub first-broken : FirstAt (IsBroken (caseOf b) (certificateOf q .amount)) (IsMet (caseOf b) (certificateOf q .amount)) 1 (rows (caseOf b)) p
+  pub first-broken : FirstAt (IsBroken (caseOf b) (certificateOf q .amount)) (IsMet (caseOf b) (certificateOf q .amount)) 1 (rows (caseOf b)) at
 
 -- of a case and a certificate
 pub record PlacesExactly {A : Type 0} (b q : List ℕ) (answer : A) (refused : Refusal → A) : Type 0 where
-  pub above-bound : (p : ℕ) → (answer ≡ refused (AboveBound p)) ↔ AboveBoundAt b q p
-  pub row-broken : (p : ℕ) → (answer ≡ refused (RowBroken p)) ↔ RowBrokenAt b q p
+  pub above-bound : (at : ℕ) → (answer ≡ refused (AboveBound at)) ↔ AboveBoundAt b q at
+  pub row-broken : (at : ℕ) → (answer ≡ refused (RowBroken at)) ↔ RowBrokenAt b q at
 
 pub record RefusedExactly : Type 0 where
   pub case-check : (b : List ℕ) → Exactly (caseGrounds b) (caseAnswer b) C.Refused C.Valid

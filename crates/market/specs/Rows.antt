@@ -101,16 +101,16 @@ inLimit high = entries minusOne none none none none
 inLimit low = entries one none none none none
 
 unfoldable pub coefficient : Case → Row → Quantity → ℤ
-coefficient c Balance (Cleared l) = none
+coefficient c Balance (Cleared k) = none
 coefficient c Balance (Provided i s) = entries one none none none none s
-coefficient c (Market k) (Cleared l) = cond (eqb (curveNumber k) (curveNumber l)) minusOne none
+coefficient c (Market k) (Cleared k′) = cond (eqb (curveNumber k) (curveNumber k′)) minusOne none
 coefficient c (Market k) (Provided i s) = inReserve (c .resource i) k s
-coefficient c (Zone z k) (Cleared l) = none
+coefficient c (Zone z k) (Cleared k′) = none
 coefficient c (Zone z k) (Provided i s) = cond (eqb (c .resource i .zone) (suc z)) (inReserve (c .resource i) k s) none
-coefficient c (Flowgate f) (Cleared l) = none
+coefficient c (Flowgate f) (Cleared k) = none
 coefficient c (Flowgate f) (Provided i s) = negℤ (entries (c .shiftFactor f i) none none none none s)
-coefficient c (Limited j l) (Cleared k) = none
-coefficient c (Limited j l) (Provided i s) = cond (eqb i j) (inLimit l s) none
+coefficient c (Limited i′ l) (Cleared k) = none
+coefficient c (Limited i′ l) (Provided i s) = cond (eqb i i′) (inLimit l s) none
 
 unfoldable pub rightSide : Case → Row → ℤ
 rightSide c Balance = pos (c .demand)
@@ -125,19 +125,19 @@ rightSide c (Limited i low) = pos (LO (c .resource i))
 
 -- ---- what a schedule makes of them
 unfoldable pub leftSide : Case → Schedule → Row → ℤ
-leftSide c x r = sumOf (λ q. coefficient c r q *ℤ pos (x q)) (quantities c)
+leftSide c x row = sumOf (λ a. coefficient c row a *ℤ pos (x a)) (quantities c)
 
 unfoldable pub slack : Case → Schedule → Row → ℤ
-slack c x r = leftSide c x r -ℤ rightSide c r
+slack c x row = leftSide c x row -ℤ rightSide c row
 
 abbrev pub Meets : Sense → ℤ → Type 0
-Meets equal s = s ≡ pos 0
-Meets atLeast s = pos 0 ≤ℤ s
+Meets equal v = v ≡ pos 0
+Meets atLeast v = pos 0 ≤ℤ v
 
 -- every quantity is at most its upper bound
 abbrev pub Bounded : Case → Schedule → Type 0
-Bounded c x = Each (λ q. x q ≤ upperBound c q) (quantities c)
+Bounded c x = Each (λ a. x a ≤ upperBound c a) (quantities c)
 
 -- every row is met
 abbrev pub Met : Case → Schedule → Type 0
-Met c x = Each (λ r. Meets (sense r) (slack c x r)) (rows c)
+Met c x = Each (λ row. Meets (sense row) (slack c x row)) (rows c)

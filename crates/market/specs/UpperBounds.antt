@@ -33,14 +33,14 @@ Schedule = Quantity → ℕ
 
 -- rounded down: first multiplied, then divided
 unfoldable pub RAMP : Case → Reserve → Resource → ℕ
-RAMP c p r = r .rampRate * c .minutes p * 1000 / c .multiplier p
+RAMP c reserve r = r .rampRate * c .minutes reserve * 1000 / c .multiplier reserve
 
 unfoldable pub SHARE : Case → Reserve → ℕ
-SHARE c p = c .share p * c .requirement p / 1000
+SHARE c reserve = c .share reserve * c .requirement reserve / 1000
 
 -- the least of RAMP, SHARE and MAX
 unfoldable pub onLineBound : Case → Reserve → Resource → ℕ
-onLineBound c p r = min (RAMP c p r) (min (SHARE c p) (MAX r))
+onLineBound c reserve r = min (RAMP c reserve r) (min (SHARE c reserve) (MAX r))
 
 -- on-line, then off-line
 unfoldable pub serviceBound : Case → Resource → Service → ℕ

@@ -35,16 +35,16 @@ asNumbers = map pos
 
 -- refusal, place, cost, bound, gap
 abbrev pub figures : CheckResult → List ℤ
-figures r = pos (r .refusal) ∷ pos (r .place) ∷ r .cost ∷ r .bound ∷ r .gap ∷ []
+figures result = pos (result .refusal) ∷ pos (result .place) ∷ result .cost ∷ result .bound ∷ result .gap ∷ []
 
 abbrev pub run : List ℕ → List ℕ → List ℤ
 run b q = figures (resultOf (outcome b q))
 
 abbrev pub accepted : ℕ → ℕ → ℕ → List ℤ
-accepted c b g = pos 0 ∷ pos 0 ∷ pos c ∷ pos b ∷ pos g ∷ []
+accepted cost bound gap = pos 0 ∷ pos 0 ∷ pos cost ∷ pos bound ∷ pos gap ∷ []
 
 abbrev pub refused : ℕ → ℕ → List ℤ
-refused n p = pos n ∷ pos p ∷ pos 0 ∷ pos 0 ∷ pos 0 ∷ []
+refused n at = pos n ∷ pos at ∷ pos 0 ∷ pos 0 ∷ pos 0 ∷ []
 
 -- 1 if the resource is on-line
 abbrev pub isOnLine : List ℕ → ℤ
@@ -77,13 +77,13 @@ intervals =
     ∷ []
 
 abbrev pub numbered : CaseAnswer → List ℤ
-numbered a = pos (caseNumberOf a) ∷ []
+numbered answer = pos (caseNumberOf answer) ∷ []
 
 abbrev pub answered : Answer → List ℤ
-answered a = pos (a .refusal) ∷ []
+answered answer = pos (answer .refusal) ∷ []
 
 abbrev pub counted : Count → List ℤ
-counted a = pos (a .refusal) ∷ pos (a .count) ∷ []
+counted answer = pos (answer .refusal) ∷ pos (answer .count) ∷ []
 
 -- a case with 5, 6 and 7, and with 6 and 7
 abbrev pub sixAndSeven : List ℕ
@@ -150,9 +150,9 @@ orders =
 
 unfoldable pub same : List ℤ → List ℤ → Bool
 same [] [] = true
-same [] (x ∷ xs) = false
-same (x ∷ xs) [] = false
-same (x ∷ xs) (y ∷ ys) = leZ x y && leZ y x && same xs ys
+same [] (v ∷ vs) = false
+same (v ∷ vs) [] = false
+same (v ∷ vs) (v′ ∷ vs′) = leZ v v′ && leZ v′ v && same vs vs′
 
 abbrev pub AsSaid : List Example → Type 0
-AsSaid es = T (all (λ (e : Example). same (e .given) (e .says)) es)
+AsSaid examples = T (all (λ (example : Example). same (example .given) (example .says)) examples)

@@ -21,6 +21,6 @@ pub record WrongTurns : Type 0 where
   -- a flowgate's sign in the LMP
   pub flowgate-sign : (c : Case) (y : Prices) (i : ℕ) → c .flowgates ≡ 1 → LMP c y i ≡ y Balance -ℤ y (Flowgate 0) *ℤ c .shiftFactor 0 i
   -- dividing by the multiplier before multiplying: RAMP is the exact quotient, rounded down, and so is SHARE
-  pub ramp-rounded-once : (c : Case) (p : Reserve) (r : Resource) → 0 < c .multiplier p →
-      (RAMP c p r * c .multiplier p ≤ r .rampRate * c .minutes p * 1000) × (r .rampRate * c .minutes p * 1000 < suc (RAMP c p r) * c .multiplier p)
-  pub share-rounded-once : (c : Case) (p : Reserve) → (SHARE c p * 1000 ≤ c .share p * c .requirement p) × (c .share p * c .requirement p < suc (SHARE c p) * 1000)
+  pub ramp-rounded-once : (c : Case) (reserve : Reserve) (r : Resource) → 0 < c .multiplier reserve →
+      (RAMP c reserve r * c .multiplier reserve ≤ r .rampRate * c .minutes reserve * 1000) × (r .rampRate * c .minutes reserve * 1000 < suc (RAMP c reserve r) * c .multiplier reserve)
+  pub share-rounded-once : (c : Case) (reserve : Reserve) → (SHARE c reserve * 1000 ≤ c .share reserve * c .requirement reserve) × (c .share reserve * c .requirement reserve < suc (SHARE c reserve) * 1000)

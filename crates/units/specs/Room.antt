@@ -4,9 +4,9 @@ use lib.IntN.{ℤ, natAbs}
 use Rattle.market.specs.Fits.{range64}
 
 abbrev pub SumRoom : ℤ → ℤ → Type 0
-SumRoom a b = (natAbs a + natAbs b) < range64
+SumRoom v v′ = (natAbs v + natAbs v′) < range64
 
-pub record ProductRoom (a b : ℤ) : Type 0 where
-  pub left : natAbs a < range64
-  pub right : natAbs b < range64
-  pub product : (natAbs a * natAbs b) < range64
+pub record ProductRoom (v v′ : ℤ) : Type 0 where
+  pub left : natAbs v < range64
+  pub right : natAbs v′ < range64
+  pub product : (natAbs v * natAbs v′) < range64

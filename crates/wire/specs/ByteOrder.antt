@@ -4,10 +4,10 @@ use Prim.Native.Nat.{ℕ, _+_, _*_, _/_, _%_}
 use Rattle.market.specs.Bytes.{u8At}
 
 abbrev pub littleEndian16 : List ℕ → ℕ → ℕ
-littleEndian16 b p = u8At b p + u8At b (p + 1) * 256
+littleEndian16 b at = u8At b at + u8At b (at + 1) * 256
 
 abbrev pub littleEndian32 : List ℕ → ℕ → ℕ
-littleEndian32 b p = u8At b p + u8At b (p + 1) * 256 + u8At b (p + 2) * 65536 + u8At b (p + 3) * 16777216
+littleEndian32 b at = u8At b at + u8At b (at + 1) * 256 + u8At b (at + 2) * 65536 + u8At b (at + 3) * 16777216
 
 -- the number whose two (four) bytes are those of n in the other order
 abbrev pub swapped16 : ℕ → ℕ

@@ -5,14 +5,14 @@ use lib.ListN.{length, take, drop}
 use lib.IntN.{ℤ, pos, negℤ}
 use lib.Signed.{_≤ℤ_, _<ℤ_}
 
--- n elements stand at the place p
+-- n elements stand at a place
 module _ {A : Type 0} where
   abbrev pub Within : List A → ℕ → ℕ → Type 0
-  Within b p n = p + n ≤ length b
+  Within es at n = at + n ≤ length es
 
-  -- the list with these elements from the place p on
+  -- the list with these elements from a place on
   abbrev pub written : ℕ → List A → List A → List A
-  written p new old = take p old ++ (new ++ drop (p + length new) old)
+  written at new old = take at old ++ (new ++ drop (at + length new) old)
 
 -- v fits a signed width whose half range is half
 pub record Signed (half : ℕ) (v : ℤ) : Type 0 where
