@@ -63,43 +63,43 @@ abbrev pub mostCurvesTerms : ℕ
 mostCurvesTerms = 4 * mostCurveTerms
 
 -- ---- figures
--- g is v grains, and no more than `most`
-pub record Figure (g : Grains) (v : ℤ) (most : ℕ) : Type 0 where
-  pub is : g .0 ≡ v
-  pub size : natAbs (g .0) ≤ most
+-- a figure is v grains, and no more than `most`
+pub record Figure (figure : Grains) (v : ℤ) (most : ℕ) : Type 0 where
+  pub is : figure .0 ≡ v
+  pub size : natAbs (figure .0) ≤ most
 
 -- the price of a row, and its right side in kW: of these, demand is the largest
 pub record RowRoom (price : Millicents) (side : Kw) : Type 0 where
   pub row-price : SmallPrice price
   pub right-side : natAbs (side .0) ≤ mostDemand
 
-pub record SmallRequirements (n : ZoneRequirements) : Type 0 where
-  pub operating : natAbs (required n 0) ≤ mostZoneRequirement
-  pub regulating-plus-spinning : natAbs (required n 1) ≤ mostZoneRequirement
-  pub regulating : natAbs (required n 2) ≤ mostZoneRequirement
-  pub short-term : natAbs (required n 3) ≤ mostZoneRequirement
+pub record SmallRequirements (requirements : ZoneRequirements) : Type 0 where
+  pub operating : natAbs (required requirements 0) ≤ mostZoneRequirement
+  pub regulating-plus-spinning : natAbs (required requirements 1) ≤ mostZoneRequirement
+  pub regulating : natAbs (required requirements 2) ≤ mostZoneRequirement
+  pub short-term : natAbs (required requirements 3) ≤ mostZoneRequirement
 
-pub record SmallLimits (l : ResourceLimits) : Type 0 where
-  pub max : natAbs (l .max .0) ≤ mostLimit maxWithReserve
-  pub min : natAbs (l .min .0) ≤ mostLimit minimum
-  pub high : natAbs (l .high .0) ≤ mostLimit high
-  pub low : natAbs (l .low .0) ≤ mostLimit low
+pub record SmallLimits (limits : ResourceLimits) : Type 0 where
+  pub max : natAbs (limits .max .0) ≤ mostLimit maxWithReserve
+  pub min : natAbs (limits .min .0) ≤ mostLimit minimum
+  pub high : natAbs (limits .high .0) ≤ mostLimit high
+  pub low : natAbs (limits .low .0) ≤ mostLimit low
 
-pub record SmallBounds (u : ReserveBounds) : Type 0 where
-  pub regulation : natAbs (u .regulation .0) ≤ mostPower
-  pub contingency : natAbs (u .contingency .0) ≤ mostPower
-  pub on-line-short-term : natAbs (u .«on_line_short_term» .0) ≤ mostPower
-  pub off-line-short-term : natAbs (u .«off_line_short_term» .0) ≤ mostPower
+pub record SmallBounds (bounds : ReserveBounds) : Type 0 where
+  pub regulation : natAbs (bounds .regulation .0) ≤ mostPower
+  pub contingency : natAbs (bounds .contingency .0) ≤ mostPower
+  pub on-line-short-term : natAbs (bounds .«on_line_short_term» .0) ≤ mostPower
+  pub off-line-short-term : natAbs (bounds .«off_line_short_term» .0) ≤ mostPower
 
 -- a step, of a resource or of a curve, at most so wide
-pub record SmallStep (t : Step) (widest : ℕ) : Type 0 where
-  pub width : natAbs (t .width .0) ≤ widest
-  pub price : SmallOffer (t .price)
+pub record SmallStep (step : Step) (widest : ℕ) : Type 0 where
+  pub width : natAbs (step .width .0) ≤ widest
+  pub price : SmallOffer (step .price)
 
 -- the widths of an offer's steps together are at most what a resource can produce
 abbrev pub stepsWidth : OfferSteps → ℕ → ℕ
-stepsWidth o j = totalOf (λ j. natAbs (offerStep o j .width .0)) (upto j)
+stepsWidth offered n = totalOf (λ j. natAbs (offerStep offered j .width .0)) (upto n)
 
-pub record SmallSteps (o : OfferSteps) : Type 0 where
-  pub price : (j : ℕ) → j < energySteps → SmallOffer (offerStep o j .price)
-  pub together : stepsWidth o energySteps ≤ mostPower
+pub record SmallSteps (offered : OfferSteps) : Type 0 where
+  pub price : (j : ℕ) → j < energySteps → SmallOffer (offerStep offered j .price)
+  pub together : stepsWidth offered energySteps ≤ mostPower

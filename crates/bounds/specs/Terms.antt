@@ -25,7 +25,7 @@ use Rattle.net_prices.specs.declared.Nets.{Nets}
 -- ---- of the bytes
 -- row price × right side
 abbrev pub rowTerm : List ℕ → List ℕ → Row → ℤ
-rowTerm b q r = certificateOf q .price r *ℤ rightSide (caseOf b) r
+rowTerm b q row = certificateOf q .price row *ℤ rightSide (caseOf b) row
 
 -- the lesser of 0 and net price × upper bound
 abbrev pub pricedTerm : List ℕ → List ℕ → Priced → ℤ
@@ -33,10 +33,10 @@ pricedTerm b q = lowest (caseOf b) (certificateOf q .price)
 
 -- of a zone's rows, a flowgate's, a resource's; and of what is priced of a resource
 abbrev pub zoneTerms : List ℕ → List ℕ → ℕ → ℤ
-zoneTerms b q y = sumOf (λ k. rowTerm b q (Zone y k)) curves
+zoneTerms b q z = sumOf (λ k. rowTerm b q (Zone z k)) curves
 
 abbrev pub flowgateTerm : List ℕ → List ℕ → ℕ → ℤ
-flowgateTerm b q y = rowTerm b q (Flowgate y)
+flowgateTerm b q f = rowTerm b q (Flowgate f)
 
 abbrev pub limitTerms : List ℕ → List ℕ → ℕ → ℤ
 limitTerms b q i = sumOf (λ l. rowTerm b q (Limited i l)) limits
@@ -51,17 +51,17 @@ resourceTerms b q i = limitTerms b q i +ℤ leastTerms b q i
 -- ---- of records
 -- the rows of a zone: prices × requirements
 abbrev pub required : ZoneRequirements → ℕ → ℤ
-required n k = getD (n .of) k (power 0) .0
+required requirements k = getD (requirements .of) k (power 0) .0
 
 unfoldable pub zoneValue : ReservePrices → ZoneRequirements → ℤ
-zoneValue p n =
-    p .operating .0 *ℤ required n 0 +ℤ (p .«regulating_plus_spinning» .0 *ℤ required n 1 +ℤ (p .regulating .0 *ℤ required n 2 +ℤ p .«short_term» .0 *ℤ required n 3))
+zoneValue prices requirements =
+    prices .operating .0 *ℤ required requirements 0 +ℤ (prices .«regulating_plus_spinning» .0 *ℤ required requirements 1 +ℤ (prices .regulating .0 *ℤ required requirements 2 +ℤ prices .«short_term» .0 *ℤ required requirements 3))
 
 -- the rows of a resource: those from below less those from above
 unfoldable pub limitValue : LimitPrices → ResourceLimits → ℤ
-limitValue p l =
-    p .minimum .0 *ℤ l .min .0 +ℤ p .low .0 *ℤ l .low .0
-    -ℤ (p .«max_with_reserve» .0 *ℤ l .max .0 +ℤ p .«max_with_short_term» .0 *ℤ l .max .0 +ℤ p .high .0 *ℤ l .high .0)
+limitValue prices limits =
+    prices .minimum .0 *ℤ limits .min .0 +ℤ prices .low .0 *ℤ limits .low .0
+    -ℤ (prices .«max_with_reserve» .0 *ℤ limits .max .0 +ℤ prices .«max_with_short_term» .0 *ℤ limits .max .0 +ℤ prices .high .0 *ℤ limits .high .0)
 
 -- the least that a quantity between 0 and its upper bound adds at its net price
 abbrev pub leastOf : ℤ → ℤ → ℤ
@@ -72,15 +72,15 @@ abbrev pub stepBound : Bool → Kw → Kw
 stepBound on width = cond on width (power 0)
 
 unfoldable pub stepLeast : Nets → Bool → Step → ℤ
-stepLeast n on t = leastOf (pos 1000 *ℤ t .price .0 +ℤ n .energy .0) (stepBound on (t .width) .0)
+stepLeast nets on step = leastOf (pos 1000 *ℤ step .price .0 +ℤ nets .energy .0) (stepBound on (step .width) .0)
 
 unfoldable pub reservesLeast : Nets → ReserveBounds → ℤ
-reservesLeast n u =
-    leastOf (n .regulation .0) (u .regulation .0)
-    +ℤ (leastOf (n .contingency .0) (u .contingency .0)
-    +ℤ (leastOf (n .«on_line_short_term» .0) (u .«on_line_short_term» .0)
-    +ℤ leastOf (n .«off_line_short_term» .0) (u .«off_line_short_term» .0)))
+reservesLeast nets bounds =
+    leastOf (nets .regulation .0) (bounds .regulation .0)
+    +ℤ (leastOf (nets .contingency .0) (bounds .contingency .0)
+    +ℤ (leastOf (nets .«on_line_short_term» .0) (bounds .«on_line_short_term» .0)
+    +ℤ leastOf (nets .«off_line_short_term» .0) (bounds .«off_line_short_term» .0)))
 
 -- a step of a curve whose market row has the price
 unfoldable pub curveStepLeast : Millicents → Step → ℤ
-curveStepLeast price t = leastOf (price .0 -ℤ pos 1000 *ℤ t .price .0) (t .width .0)
+curveStepLeast price step = leastOf (price .0 -ℤ pos 1000 *ℤ step .price .0) (step .width .0)

@@ -27,39 +27,39 @@ abbrev pub noStep : Step
 noStep = record { width = power 0; price = price 0 }
 
 abbrev pub offerStep : OfferSteps → ℕ → Step
-offerStep o j = getD (o .of) j noStep
+offerStep offered j = getD (offered .of) j noStep
 
 abbrev pub curveStep : CurveSteps → ℕ → Step
-curveStep o j = getD (o .of) j noStep
+curveStep curve j = getD (curve .of) j noStep
 
-pub record RangedLimits (l : OutputLimits) : Type 0 where
-  pub economic-min : UpTo (l .«economic_min» .0) 2000000
-  pub economic-max : UpTo (l .«economic_max» .0) 2000000
-  pub regulating-min : UpTo (l .«regulating_min» .0) 2000000
-  pub regulating-max : UpTo (l .«regulating_max» .0) 2000000
-  pub emergency-min : UpTo (l .«emergency_min» .0) 2000000
-  pub emergency-max : UpTo (l .«emergency_max» .0) 2000000
+pub record RangedLimits (limits : OutputLimits) : Type 0 where
+  pub economic-min : UpTo (limits .«economic_min» .0) 2000000
+  pub economic-max : UpTo (limits .«economic_max» .0) 2000000
+  pub regulating-min : UpTo (limits .«regulating_min» .0) 2000000
+  pub regulating-max : UpTo (limits .«regulating_max» .0) 2000000
+  pub emergency-min : UpTo (limits .«emergency_min» .0) 2000000
+  pub emergency-max : UpTo (limits .«emergency_max» .0) 2000000
 
-pub record RangedRamps (m : Ramps) : Type 0 where
-  pub up : UpTo (m .up .0) 400000
-  pub down : UpTo (m .down .0) 400000
-  pub rate : UpTo (m .rate .0) 400000
+pub record RangedRamps (ramps : Ramps) : Type 0 where
+  pub up : UpTo (ramps .up .0) 400000
+  pub down : UpTo (ramps .down .0) 400000
+  pub rate : UpTo (ramps .rate .0) 400000
 
-pub record RangedOtherPowers (t : OtherPowers) : Type 0 where
-  pub initial : UpTo (t .initial .0) 2000000
-  pub off-line-response : UpTo (t .«off_line_response» .0) 2000000
-  pub off-line-short-term : UpTo (t .«off_line_short_term» .0) 2000000
-  pub self-schedule : UpTo (t .«self_schedule» .0) 2000000
+pub record RangedOtherPowers (powers : OtherPowers) : Type 0 where
+  pub initial : UpTo (powers .initial .0) 2000000
+  pub off-line-response : UpTo (powers .«off_line_response» .0) 2000000
+  pub off-line-short-term : UpTo (powers .«off_line_short_term» .0) 2000000
+  pub self-schedule : UpTo (powers .«self_schedule» .0) 2000000
 
-pub record RangedOffers (o : ReserveOffers) : Type 0 where
-  pub regulating : UpTo (o .regulating .0) 400000
-  pub contingency : UpTo (o .contingency .0) 400000
-  pub off-line-short-term : UpTo (o .«off_line_short_term» .0) 400000
+pub record RangedOffers (offers : ReserveOffers) : Type 0 where
+  pub regulating : UpTo (offers .regulating .0) 400000
+  pub contingency : UpTo (offers .contingency .0) 400000
+  pub off-line-short-term : UpTo (offers .«off_line_short_term» .0) 400000
 
 -- energy steps; their prices have a sign
-pub record RangedSteps (o : OfferSteps) : Type 0 where
-  pub width : (j : ℕ) → j < energySteps → UpTo (offerStep o j .width .0) 2000000
-  pub price : (j : ℕ) → j < energySteps → natAbs (offerStep o j .price .0) ≤ 400000
+pub record RangedSteps (offered : OfferSteps) : Type 0 where
+  pub width : (j : ℕ) → j < energySteps → UpTo (offerStep offered j .width .0) 2000000
+  pub price : (j : ℕ) → j < energySteps → natAbs (offerStep offered j .price .0) ≤ 400000
 
 pub record Ranged (r : Resource) : Type 0 where
   pub output : natAbs (r .state .output .0) ≤ 2000000
@@ -68,17 +68,17 @@ pub record Ranged (r : Resource) : Type 0 where
   pub «other_powers» : RangedOtherPowers (r .«other_powers»)
   pub offers : RangedOffers (r .offers)
 
-pub record RangedTerms (t : ReserveTerms) : Type 0 where
-  pub multiplier-from : 1 ≤ t .multiplier .0
-  pub multiplier-to : t .multiplier .0 ≤ 5000
-  pub minutes-from : 1 ≤ t .minutes .0
-  pub minutes-to : t .minutes .0 ≤ 60
-  pub share-to : t .share .0 ≤ 1000
-  pub requirement : UpTo (t .requirement .0) 8000000
+pub record RangedTerms (terms : ReserveTerms) : Type 0 where
+  pub multiplier-from : 1 ≤ terms .multiplier .0
+  pub multiplier-to : terms .multiplier .0 ≤ 5000
+  pub minutes-from : 1 ≤ terms .minutes .0
+  pub minutes-to : terms .minutes .0 ≤ 60
+  pub share-to : terms .share .0 ≤ 1000
+  pub requirement : UpTo (terms .requirement .0) 8000000
 
-pub record RangedCurve (o : CurveSteps) : Type 0 where
-  pub width : (j : ℕ) → j < curveSteps → UpTo (curveStep o j .width .0) 8000000
-  pub price : (j : ℕ) → j < curveSteps → UpTo (curveStep o j .price .0) 400000
+pub record RangedCurve (curve : CurveSteps) : Type 0 where
+  pub width : (j : ℕ) → j < curveSteps → UpTo (curveStep curve j .width .0) 8000000
+  pub price : (j : ℕ) → j < curveSteps → UpTo (curveStep curve j .price .0) 400000
 
-pub record RangedZone (q : ZoneRequirements) : Type 0 where
-  pub requirement : (k : ℕ) → k < 4 → UpTo (getD (q .of) k (power 0) .0) 2000000
+pub record RangedZone (requirements : ZoneRequirements) : Type 0 where
+  pub requirement : (k : ℕ) → k < 4 → UpTo (getD (requirements .of) k (power 0) .0) 2000000

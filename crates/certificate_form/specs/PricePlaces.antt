@@ -14,6 +14,6 @@ use Rattle.case_ranges.specs.Pieces.{numberAtMost}
 abbrev pub zonePriced : List ℕ → ℕ → Bool
 zonePriced q zone = all (numberAtMost 400000000 q (zonePricesPlace zone)) (upto (length curves))
 
--- the five rows of resource i, in a file of z zones and f flowgates
+-- the five rows of resource i, in a file of so many zones and flowgates
 abbrev pub limitsPriced : List ℕ → ℕ → ℕ → ℕ → Bool
 limitsPriced q z f i = all (numberAtMost 400000000 q (amountsPlace z f i + length services * 4)) (upto (length limits))

@@ -25,27 +25,27 @@ pub record ChargeRoom (net : Millicents) (amount upper : Kw) : Type 0 where
 
 -- ---- a resource
 -- a step, at most so wide, and what fills it
-pub record StepRoom (t : Step) (amount : Kw) (widest : ℕ) : Type 0 where
-  pub step : SmallStep t widest
+pub record StepRoom (this : Step) (amount : Kw) (widest : ℕ) : Type 0 where
+  pub step : SmallStep this widest
   pub part : natAbs (amount .0) ≤ widest
 
 -- its offer, and its energy
-pub record StepsRoom (o : OfferSteps) (energy : Kw) : Type 0 where
-  pub steps : RangedSteps o
+pub record StepsRoom (offered : OfferSteps) (energy : Kw) : Type 0 where
+  pub steps : RangedSteps offered
   pub provided : UpTo (energy .0) mostPower
 
 -- what it is given of its reserves
-pub record SmallReserves (a : Amounts) : Type 0 where
-  pub regulation : natAbs (a .regulation .0) ≤ mostPower
-  pub contingency : natAbs (a .contingency .0) ≤ mostPower
-  pub on-line-short-term : natAbs (a .«on_line_short_term» .0) ≤ mostPower
-  pub off-line-short-term : natAbs (a .«off_line_short_term» .0) ≤ mostPower
+pub record SmallReserves (amounts : Amounts) : Type 0 where
+  pub regulation : natAbs (amounts .regulation .0) ≤ mostPower
+  pub contingency : natAbs (amounts .contingency .0) ≤ mostPower
+  pub on-line-short-term : natAbs (amounts .«on_line_short_term» .0) ≤ mostPower
+  pub off-line-short-term : natAbs (amounts .«off_line_short_term» .0) ≤ mostPower
 
 -- ---- a curve: the price of its market row, its steps and its cleared quantity
-pub record CurveRoom (price : Millicents) (o : CurveSteps) (amount : Kw) : Type 0 where
+pub record CurveRoom (price : Millicents) (curve : CurveSteps) (amount : Kw) : Type 0 where
   pub row-price : SmallPrice price
-  pub steps : RangedCurve o
+  pub steps : RangedCurve curve
   pub cleared : UpTo (amount .0) mostInSteps
 
 abbrev pub ClearedRoom : ClearedCurve → Type 0
-ClearedRoom v = CurveRoom (v .price) (v .steps) (v .cleared)
+ClearedRoom curve = CurveRoom (curve .price) (curve .steps) (curve .cleared)

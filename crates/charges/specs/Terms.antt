@@ -41,35 +41,35 @@ chargeOf net amount upper = net *ℤ amount -ℤ leastOf net upper
 
 -- an energy step with the amount that fills it
 unfoldable pub stepCharge : Nets → Bool → Step → ℤ → ℤ
-stepCharge n on t amount = chargeOf (pos 1000 *ℤ t .price .0 +ℤ n .energy .0) amount (stepBound on (t .width) .0)
+stepCharge nets on step amount = chargeOf (pos 1000 *ℤ step .price .0 +ℤ nets .energy .0) amount (stepBound on (step .width) .0)
 
--- step j, with x kW filled into the steps in order
+-- step j, with an amount in kW filled into the steps in order
 abbrev pub energyCharge : Nets → Bool → OfferSteps → ℕ → ℕ → ℤ
-energyCharge n on o x j = stepCharge n on (offerStep o j) (pos (filled (widthsOf (offerStep o)) x j))
+energyCharge nets on offered amount j = stepCharge nets on (offerStep offered j) (pos (filled (widthsOf (offerStep offered)) amount j))
 
 -- g, c, s, o
 unfoldable pub reserveCharges : Nets → Amounts → ReserveBounds → List ℤ
-reserveCharges n a u =
-    chargeOf (n .regulation .0) (a .regulation .0) (u .regulation .0)
-    ∷ chargeOf (n .contingency .0) (a .contingency .0) (u .contingency .0)
-    ∷ chargeOf (n .«on_line_short_term» .0) (a .«on_line_short_term» .0) (u .«on_line_short_term» .0)
-    ∷ chargeOf (n .«off_line_short_term» .0) (a .«off_line_short_term» .0) (u .«off_line_short_term» .0)
+reserveCharges nets amounts bounds =
+    chargeOf (nets .regulation .0) (amounts .regulation .0) (bounds .regulation .0)
+    ∷ chargeOf (nets .contingency .0) (amounts .contingency .0) (bounds .contingency .0)
+    ∷ chargeOf (nets .«on_line_short_term» .0) (amounts .«on_line_short_term» .0) (bounds .«on_line_short_term» .0)
+    ∷ chargeOf (nets .«off_line_short_term» .0) (amounts .«off_line_short_term» .0) (bounds .«off_line_short_term» .0)
     ∷ []
 
 -- a step of a curve whose market row has the price
 unfoldable pub curveStepCharge : Millicents → Step → ℤ → ℤ
-curveStepCharge price t amount = chargeOf (price .0 -ℤ pos 1000 *ℤ t .price .0) amount (t .width .0)
+curveStepCharge price step amount = chargeOf (price .0 -ℤ pos 1000 *ℤ step .price .0) amount (step .width .0)
 
--- step j, with x kW filled into the steps in order
+-- step j, with an amount in kW filled into the steps in order
 abbrev pub curveCharge : Millicents → CurveSteps → ℕ → ℕ → ℤ
-curveCharge price o x j = curveStepCharge price (curveStep o j) (pos (filled (widthsOf (curveStep o)) x j))
+curveCharge price curve amount j = curveStepCharge price (curveStep curve j) (pos (filled (widthsOf (curveStep curve)) amount j))
 
 -- a curve, with the price of its market row and its cleared quantity
 abbrev pub clearedCurve : Millicents → CurveSteps → Kw → ClearedCurve
-clearedCurve price o amount = record { price = price; steps = o; cleared = amount }
+clearedCurve price curve amount = record { price = price; steps = curve; cleared = amount }
 
 abbrev pub curveCharges : ClearedCurve → List ℤ
-curveCharges v = map (curveCharge (v .price) (v .steps) (natAbs (v .cleared .0))) (upto 4)
+curveCharges curve = map (curveCharge (curve .price) (curve .steps) (natAbs (curve .cleared .0))) (upto 4)
 
 -- of the bytes
 abbrev pub curveFrom : List ℕ → List ℕ → Curve → ClearedCurve

@@ -13,17 +13,17 @@ use Rattle.costs.specs.declared.Filled.{Filled}
 abbrev pub mostInSteps : ℕ
 mostInSteps = 32000000
 
--- of x kW that are left, what fills a step w wide, and what is left after it
+-- of an amount that is left, in kW, what fills a step w wide, and what is left after it
 unfoldable pub fillingOf : ℕ → ℕ → Filled
-fillingOf x w = record { part = power (min w x); left = power (x - w) }
+fillingOf amount w = record { part = power (min w amount); left = power (amount - w) }
 
 -- what fills step j, at the step's price
 unfoldable pub stepWorth : (ℕ → Step) → ℕ → ℕ → ℤ
-stepWorth steps x j = steps j .price .0 *ℤ pos (filled (widthsOf steps) x j)
+stepWorth steps amount j = steps j .price .0 *ℤ pos (filled (widthsOf steps) amount j)
 
--- x kW filled into the first n steps
+-- an amount in kW filled into the first n steps
 abbrev pub stepsWorth : (ℕ → Step) → ℕ → ℕ → ℤ
-stepsWorth steps x n = sumOf (stepWorth steps x) (upto n)
+stepsWorth steps amount n = sumOf (stepWorth steps amount) (upto n)
 
 -- n steps, each at most so wide, with prices in their range
 pub record StepRanges (steps : ℕ → Step) (n widest : ℕ) : Type 0 where

@@ -11,10 +11,10 @@ abbrev pub atLeast500 : ℤ → Bool
 atLeast500 output = leZ (pos 500) output || leZ output (negℤ (pos 500))
 
 unfoldable pub conventionalOnLine : State → Bool
-conventionalOnLine t = eqb (t .kind) 1 && atLeast500 (t .output .0) && eqb (t .breaker) 1 && ltb 15 (t .trip .0)
+conventionalOnLine state = eqb (state .kind) 1 && atLeast500 (state .output .0) && eqb (state .breaker) 1 && ltb 15 (state .trip .0)
 
 unfoldable pub intermittentOnLine : State → Bool
-intermittentOnLine t = eqb (t .kind) 2 && committed (t .status .0) && eqb (t .breaker) 1 && ltZ (pos 0) (t .output .0)
+intermittentOnLine state = eqb (state .kind) 2 && committed (state .status .0) && eqb (state .breaker) 1 && ltZ (pos 0) (state .output .0)
 
 unfoldable pub externalOnLine : State → Bool
-externalOnLine t = eqb (t .kind) 3 && available (t .status .0) && eqb (t .breaker) 1 && activeSchedule (t .status .0)
+externalOnLine state = eqb (state .kind) 3 && available (state .status .0) && eqb (state .breaker) 1 && activeSchedule (state .status .0)

@@ -12,10 +12,10 @@ use Rattle.limits.specs.declared.ReserveBounds.{ReserveBounds}
 unfoldable pub limitsOf : Resource → ResourceLimits
 limitsOf r = record { max = power (MAX r); min = power (MIN r); high = power (HI r); low = power (LO r) }
 
-pub record TermsRanged (t : Terms) : Type 0 where
-  pub regulating : RangedTerms (t .regulating)
-  pub contingency : RangedTerms (t .contingency)
-  pub short-term : RangedTerms (t .«short_term»)
+pub record TermsRanged (terms : Terms) : Type 0 where
+  pub regulating : RangedTerms (terms .regulating)
+  pub contingency : RangedTerms (terms .contingency)
+  pub short-term : RangedTerms (terms .«short_term»)
 
 unfoldable pub reserveBoundsOf : Case → Resource → ReserveBounds
 reserveBoundsOf c r =

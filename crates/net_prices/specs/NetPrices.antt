@@ -31,18 +31,18 @@ netsOf c y i =
 -- ---- the same from what is read
 -- the prices of a resource's own rows, as they stand against its energy
 abbrev pub ownRows : LimitPrices → ℤ
-ownRows p = p .«max_with_reserve» .0 +ℤ p .«max_with_short_term» .0 -ℤ p .minimum .0 +ℤ p .high .0 -ℤ p .low .0
+ownRows prices = prices .«max_with_reserve» .0 +ℤ prices .«max_with_short_term» .0 -ℤ prices .minimum .0 +ℤ prices .high .0 -ℤ prices .low .0
 
 -- an offer, against a price and with what the resource's own rows ask
 abbrev pub reserveNet : ℤ → ℤ → ℤ → ℤ
 reserveNet offer price own = pos 1000 *ℤ offer -ℤ price +ℤ own
 
 unfoldable pub netsFrom : ReserveOffers → Bool → LimitPrices → Millicents → ZonePrices → Nets
-netsFrom o spins own lmp zone =
+netsFrom offers spins own lmp zone =
     record {
       energy = millicents (ownRows own -ℤ lmp .0);
-      regulation = millicents (reserveNet (o .regulating .0) (zone .regulating .0) (own .«max_with_reserve» .0 +ℤ own .minimum .0));
-      contingency = millicents (reserveNet (o .contingency .0) (cond spins (zone .spinning) (zone .supplemental) .0) (own .«max_with_reserve» .0));
+      regulation = millicents (reserveNet (offers .regulating .0) (zone .regulating .0) (own .«max_with_reserve» .0 +ℤ own .minimum .0));
+      contingency = millicents (reserveNet (offers .contingency .0) (cond spins (zone .spinning) (zone .supplemental) .0) (own .«max_with_reserve» .0));
       «on_line_short_term» = millicents (own .«max_with_short_term» .0 -ℤ zone .«short_term» .0);
-      «off_line_short_term» = millicents (pos 1000 *ℤ o .«off_line_short_term» .0 -ℤ zone .«short_term» .0);
+      «off_line_short_term» = millicents (pos 1000 *ℤ offers .«off_line_short_term» .0 -ℤ zone .«short_term» .0);
     }

@@ -14,9 +14,9 @@ use Rattle.prices.specs.declared.ZonePrices.{ZonePrices}
 use Rattle.net_prices.specs.declared.Nets.{Nets}
 
 -- m is v thousandths of a cent, and no more than `most`
-pub record Price (m : Millicents) (v : ℤ) (most : ℕ) : Type 0 where
-  pub is : m .0 ≡ v
-  pub size : natAbs (m .0) ≤ most
+pub record Price (price : Millicents) (v : ℤ) (most : ℕ) : Type 0 where
+  pub is : price .0 ≡ v
+  pub size : natAbs (price .0) ≤ most
 
 -- an offer, in cents
 abbrev pub SmallOffer : Cents → Type 0
@@ -27,23 +27,23 @@ abbrev pub SmallPrice : Millicents → Type 0
 SmallPrice p = natAbs (p .0) ≤ mostPrice
 
 -- ---- what is known of a resource's prices
-pub record SmallOffers (o : ReserveOffers) : Type 0 where
-  pub regulating : SmallOffer (o .regulating)
-  pub contingency : SmallOffer (o .contingency)
-  pub off-line-short-term : SmallOffer (o .«off_line_short_term»)
+pub record SmallOffers (offers : ReserveOffers) : Type 0 where
+  pub regulating : SmallOffer (offers .regulating)
+  pub contingency : SmallOffer (offers .contingency)
+  pub off-line-short-term : SmallOffer (offers .«off_line_short_term»)
 
-pub record SmallLimitPrices (p : LimitPrices) : Type 0 where
-  pub max-with-reserve : SmallPrice (p .«max_with_reserve»)
-  pub max-with-short-term : SmallPrice (p .«max_with_short_term»)
-  pub minimum : SmallPrice (p .minimum)
-  pub high : SmallPrice (p .high)
-  pub low : SmallPrice (p .low)
+pub record SmallLimitPrices (prices : LimitPrices) : Type 0 where
+  pub max-with-reserve : SmallPrice (prices .«max_with_reserve»)
+  pub max-with-short-term : SmallPrice (prices .«max_with_short_term»)
+  pub minimum : SmallPrice (prices .minimum)
+  pub high : SmallPrice (prices .high)
+  pub low : SmallPrice (prices .low)
 
-pub record SmallZonePrices (p : ZonePrices) : Type 0 where
-  pub regulating : natAbs (p .regulating .0) ≤ mostRegulatingPrice
-  pub spinning : natAbs (p .spinning .0) ≤ mostSpinningPrice
-  pub supplemental : natAbs (p .supplemental .0) ≤ mostSupplementalPrice
-  pub short-term : natAbs (p .«short_term» .0) ≤ mostShortTermPrice
+pub record SmallZonePrices (prices : ZonePrices) : Type 0 where
+  pub regulating : natAbs (prices .regulating .0) ≤ mostRegulatingPrice
+  pub spinning : natAbs (prices .spinning .0) ≤ mostSpinningPrice
+  pub supplemental : natAbs (prices .supplemental .0) ≤ mostSupplementalPrice
+  pub short-term : natAbs (prices .«short_term» .0) ≤ mostShortTermPrice
 
 abbrev pub SmallLmp : Millicents → Type 0
 SmallLmp m = natAbs (m .0) ≤ mostLmp
@@ -53,9 +53,9 @@ abbrev pub NetRoom : Millicents → Millicents → Type 0
 NetRoom zone own = (mostPrice + natAbs (zone .0) + natAbs (own .0)) < range64
 
 -- ---- and of its net prices
-pub record SmallNets (n : Nets) : Type 0 where
-  pub energy : natAbs (n .energy .0) ≤ mostEnergyRows
-  pub regulation : natAbs (n .regulation .0) ≤ mostServiceNet regulation
-  pub contingency : natAbs (n .contingency .0) ≤ mostServiceNet contingency
-  pub on-line-short-term : natAbs (n .«on_line_short_term» .0) ≤ mostServiceNet onLineShortTerm
-  pub off-line-short-term : natAbs (n .«off_line_short_term» .0) ≤ mostServiceNet offLineShortTerm
+pub record SmallNets (nets : Nets) : Type 0 where
+  pub energy : natAbs (nets .energy .0) ≤ mostEnergyRows
+  pub regulation : natAbs (nets .regulation .0) ≤ mostServiceNet regulation
+  pub contingency : natAbs (nets .contingency .0) ≤ mostServiceNet contingency
+  pub on-line-short-term : natAbs (nets .«on_line_short_term» .0) ≤ mostServiceNet onLineShortTerm
+  pub off-line-short-term : natAbs (nets .«off_line_short_term» .0) ≤ mostServiceNet offLineShortTerm

@@ -7,9 +7,9 @@ use Rattle.market.specs.Refusals.{resultOf}
 use Rattle.market.specs.Outcome.{outcome}
 use Rattle.market.specs.Promise.{Promise}
 
--- of case bytes c, certificate bytes q and the result r
-pub record Reported (c q : List ℕ) (r : CheckResult) : Type 0 where
+-- of case bytes b, certificate bytes q and the result
+pub record Reported (b q : List ℕ) (result : CheckResult) : Type 0 where
   -- the result is the one that 01 defines
-  pub answer : r ≡ resultOf (outcome c q)
+  pub answer : result ≡ resultOf (outcome b q)
   -- refusal 0: the certificate is accepted, with these numbers (demand 3)
-  pub promise : r .refusal ≡ 0 → Promise c q (r .cost) (r .bound) (r .gap)
+  pub promise : result .refusal ≡ 0 → Promise b q (result .cost) (result .bound) (result .gap)

@@ -17,21 +17,21 @@ module _
     (reading : List ℕ → ℕ → Transfer) (readBuffer : List ℕ → List ℤ → List ℤ)
     (writing : List ℤ → ℕ → Transfer) (writeBuffer : List ℤ → List ℕ → List ℕ)
   where
-    -- of file bytes b, the buffer's numbers before and after, and the result r
-    pub record NumbersRead (b : List ℕ) (before after : List ℤ) (r : Count) : Type 0 where
+    -- of file bytes b, the buffer's numbers before and after, and the result
+    pub record NumbersRead (b : List ℕ) (before after : List ℤ) (result : Count) : Type 0 where
       -- result and buffer are those that 01 defines
-      pub answer : r ≡ countOf (reading b (length before))
+      pub answer : result ≡ countOf (reading b (length before))
       pub buffer : after ≡ readBuffer b before
       -- refusal 0: the numbers counted, as they stand in the buffer, are written as b into any bytes that are enough
-      pub written-back : r .refusal ≡ 0 → (out : List ℕ) → length b ≤ length out →
-          (countOf (writing (take (r .count) after) (length out)) ≡ counting (length b))
-          × (writeBuffer (take (r .count) after) out ≡ b ++ drop (length b) out)
+      pub written-back : result .refusal ≡ 0 → (out : List ℕ) → length b ≤ length out →
+          (countOf (writing (take (result .count) after) (length out)) ≡ counting (length b))
+          × (writeBuffer (take (result .count) after) out ≡ b ++ drop (length b) out)
 
-    -- of numbers v, the buffer's bytes before and after, and the result r
-    pub record NumbersWritten (v : List ℤ) (before after : List ℕ) (r : Count) : Type 0 where
-      pub answer : r ≡ countOf (writing v (length before))
-      pub buffer : after ≡ writeBuffer v before
-      -- refusal 0: the bytes counted, as they stand in the buffer, are read as v into any numbers that are enough
-      pub read-back : r .refusal ≡ 0 → (out : List ℤ) → length v ≤ length out →
-          (countOf (reading (take (r .count) after) (length out)) ≡ counting (length v))
-          × (readBuffer (take (r .count) after) out ≡ v ++ drop (length v) out)
+    -- of numbers vs, the buffer's bytes before and after, and the result
+    pub record NumbersWritten (vs : List ℤ) (before after : List ℕ) (result : Count) : Type 0 where
+      pub answer : result ≡ countOf (writing vs (length before))
+      pub buffer : after ≡ writeBuffer vs before
+      -- refusal 0: the bytes counted, as they stand in the buffer, are read as vs into any numbers that are enough
+      pub read-back : result .refusal ≡ 0 → (out : List ℤ) → length vs ≤ length out →
+          (countOf (reading (take (result .count) after) (length out)) ≡ counting (length vs))
+          × (readBuffer (take (result .count) after) out ≡ vs ++ drop (length vs) out)

@@ -23,13 +23,13 @@ pub record AcceptedWith (b q : List ℕ) (n : Counts) : Type 0 where
 
 -- the answer after the stages: accepted with these values, or refused
 abbrev pub outcomeAfter : Stage → Valuation → Outcome
-outcomeAfter (S.Passed n) v = Accepted v
-outcomeAfter (S.Refused w) v = O.Refused w
+outcomeAfter (S.Passed n) values = Accepted values
+outcomeAfter (S.Refused why) values = O.Refused why
 
--- of case bytes b, certificate bytes q and the answer r
-pub record Checked (b q : List ℕ) (r : Outcome) : Type 0 where
+-- of case bytes b, certificate bytes q and the result
+pub record Checked (b q : List ℕ) (result : Outcome) : Type 0 where
   -- the answer is the one that 01 defines
-  pub answer : r ≡ outcome b q
+  pub answer : result ≡ outcome b q
   -- accepted: the case is valid, every quantity is within its bound, every row is met, no other schedule within those bounds
   -- and rows costs less than the cost less the gap, and the gap is the sum of the charges, none below zero
-  pub promise : (paid least gap : ℤ) → r ≡ Accepted (valued paid least gap) → Promise b q paid least gap
+  pub promise : (paid least gap : ℤ) → result ≡ Accepted (valued paid least gap) → Promise b q paid least gap

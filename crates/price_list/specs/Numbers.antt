@@ -5,4 +5,4 @@ use Rattle.prices.specs.declared.ZonePrices.{ZonePrices}
 
 -- regulating, spinning, supplemental, short-term
 abbrev pub numbersOf : ZonePrices → List ℤ
-numbersOf p = p .regulating .0 ∷ p .spinning .0 ∷ p .supplemental .0 ∷ p .«short_term» .0 ∷ []
+numbersOf prices = prices .regulating .0 ∷ prices .spinning .0 ∷ prices .supplemental .0 ∷ prices .«short_term» .0 ∷ []

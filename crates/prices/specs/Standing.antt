@@ -25,9 +25,9 @@ pub record Standing (b q : List ℕ) (r z f : ℕ) : Type 0 where
   pub bounded : Bounded (caseOf b) (certificateOf q .amount)
 
 -- amounts of a resource, each within its bound and so at most 2,000,000 kW
-pub record SmallAmounts (a : Amounts) : Type 0 where
-  pub energy : natAbs (a .energy .0) ≤ 2000000
-  pub regulation : natAbs (a .regulation .0) ≤ 2000000
-  pub contingency : natAbs (a .contingency .0) ≤ 2000000
-  pub on-line-short-term : natAbs (a .«on_line_short_term» .0) ≤ 2000000
-  pub off-line-short-term : natAbs (a .«off_line_short_term» .0) ≤ 2000000
+pub record SmallAmounts (amounts : Amounts) : Type 0 where
+  pub energy : natAbs (amounts .energy .0) ≤ 2000000
+  pub regulation : natAbs (amounts .regulation .0) ≤ 2000000
+  pub contingency : natAbs (amounts .contingency .0) ≤ 2000000
+  pub on-line-short-term : natAbs (amounts .«on_line_short_term» .0) ≤ 2000000
+  pub off-line-short-term : natAbs (amounts .«off_line_short_term» .0) ≤ 2000000

@@ -17,18 +17,18 @@ zonePricesOf y z =
     }
 
 -- prices of rows, each in its range
-pub record SmallPrices (p : ReservePrices) : Type 0 where
-  pub operating : natAbs (p .operating .0) ≤ 400000000
-  pub regulating-plus-spinning : natAbs (p .«regulating_plus_spinning» .0) ≤ 400000000
-  pub regulating : natAbs (p .regulating .0) ≤ 400000000
-  pub short-term : natAbs (p .«short_term» .0) ≤ 400000000
+pub record SmallPrices (prices : ReservePrices) : Type 0 where
+  pub operating : natAbs (prices .operating .0) ≤ 400000000
+  pub regulating-plus-spinning : natAbs (prices .«regulating_plus_spinning» .0) ≤ 400000000
+  pub regulating : natAbs (prices .regulating .0) ≤ 400000000
+  pub short-term : natAbs (prices .«short_term» .0) ≤ 400000000
 
 -- the market rows' prices and a zone's
 unfoldable pub addedPrices : ReservePrices → ReservePrices → ZonePrices
-addedPrices m n =
+addedPrices market zone =
     record {
-      regulating = millicents (m .operating .0 +ℤ n .operating .0 +ℤ (m .«regulating_plus_spinning» .0 +ℤ n .«regulating_plus_spinning» .0) +ℤ (m .regulating .0 +ℤ n .regulating .0));
-      spinning = millicents (m .operating .0 +ℤ n .operating .0 +ℤ (m .«regulating_plus_spinning» .0 +ℤ n .«regulating_plus_spinning» .0));
-      supplemental = millicents (m .operating .0 +ℤ n .operating .0);
-      «short_term» = millicents (m .«short_term» .0 +ℤ n .«short_term» .0);
+      regulating = millicents (market .operating .0 +ℤ zone .operating .0 +ℤ (market .«regulating_plus_spinning» .0 +ℤ zone .«regulating_plus_spinning» .0) +ℤ (market .regulating .0 +ℤ zone .regulating .0));
+      spinning = millicents (market .operating .0 +ℤ zone .operating .0 +ℤ (market .«regulating_plus_spinning» .0 +ℤ zone .«regulating_plus_spinning» .0));
+      supplemental = millicents (market .operating .0 +ℤ zone .operating .0);
+      «short_term» = millicents (market .«short_term» .0 +ℤ zone .«short_term» .0);
     }

@@ -18,23 +18,23 @@ abbrev pub truth : Bool → ℤ
 truth t = cond t (pos 1) (pos 0)
 
 abbrev pub valueLine : List ℕ → Grains → List ℕ
-valueLine word v = line word (v .0 ∷ [])
+valueLine word value = line word (value .0 ∷ [])
 
 unfoldable pub boundAndGap : Valuation → List ℕ
-boundAndGap v = valueLine boundWord (v .bound) ++ valueLine gapWord (v .gap)
+boundAndGap values = valueLine boundWord (values .bound) ++ valueLine gapWord (values .gap)
 
 unfoldable pub headLines : Valuation → List ℕ
-headLines v = valueLine costWord (v .cost) ++ boundAndGap v
+headLines values = valueLine costWord (values .cost) ++ boundAndGap values
 
 -- e g c s o
 abbrev pub amountFigures : Amounts → List ℤ
-amountFigures a = a .energy .0 ∷ a .regulation .0 ∷ a .contingency .0 ∷ a .«on_line_short_term» .0 ∷ a .«off_line_short_term» .0 ∷ []
+amountFigures amounts = amounts .energy .0 ∷ amounts .regulation .0 ∷ amounts .contingency .0 ∷ amounts .«on_line_short_term» .0 ∷ amounts .«off_line_short_term» .0 ∷ []
 
 unfoldable pub resourceText : ℕ → Bool → Amounts → Millicents → List ℕ
-resourceText i on a price = line (decimal (pos (suc i))) (truth on ∷ (amountFigures a ++ (price .0 ∷ [])))
+resourceText i on amounts price = line (decimal (pos (suc i))) (truth on ∷ (amountFigures amounts ++ (price .0 ∷ [])))
 
 unfoldable pub zoneText : ℕ → ZonePrices → List ℕ
-zoneText z p = line zoneWord (pos (suc z) ∷ numbersOf p)
+zoneText z prices = line zoneWord (pos (suc z) ∷ numbersOf prices)
 
 unfoldable pub scheduleLines : Case → Certificate → List ℕ
-scheduleLines c k = across (resourceLine c k) (upto (c .resources)) ++ across (zoneLine k) (upto (c .zones))
+scheduleLines c d = across (resourceLine c d) (upto (c .resources)) ++ across (zoneLine d) (upto (c .zones))

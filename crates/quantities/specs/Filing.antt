@@ -23,16 +23,16 @@ pub record FiledWith (b q : List ℕ) (n : Counts) : Type 0 where
   pub filing : Filing b q (n .resources) (n .zones) (n .flowgates)
 
 -- 1 to 11 have passed with these counts, or something was refused
-pub record Filed (b q : List ℕ) (s : Stage) : Type 0 where
-  pub known : (n : Counts) → s ≡ Passed n → FiledWith b q n
+pub record Filed (b q : List ℕ) (stage : Stage) : Type 0 where
+  pub known : (n : Counts) → stage ≡ Passed n → FiledWith b q n
 
 -- one more ground, where the earlier ones have passed; else their refusal
 unfoldable pub afterwards : Stage → Finding → Stage
 afterwards (Passed n) clear = Passed n
-afterwards (Passed n) (holds r) = Refused r
-afterwards (Refused w) g = Refused w
+afterwards (Passed n) (holds why) = Refused why
+afterwards (Refused why) g = Refused why
 
--- a stage's answer r after the earlier answer s: its ground g
-pub record Advanced (b q : List ℕ) (s : Stage) (g : Finding) (r : Stage) : Type 0 where
-  pub answer : r ≡ afterwards s g
-  pub filed : Filed b q r
+-- a stage after the earlier one: its ground g
+pub record Advanced (b q : List ℕ) (earlier : Stage) (g : Finding) (stage : Stage) : Type 0 where
+  pub answer : stage ≡ afterwards earlier g
+  pub filed : Filed b q stage

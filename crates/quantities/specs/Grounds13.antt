@@ -17,21 +17,21 @@ use Rattle.certificate_form.specs.Form.{formGrounds}
 
 -- 12
 abbrev pub priceGround : Case → Certificate → Finding
-priceGround c k = unless (all (priceRight k) (rows c)) PriceRange
+priceGround c d = unless (all (priceRight d) (rows c)) PriceRange
 
 -- 13
 abbrev pub boundGround : Case → Certificate → Finding
-boundGround c k = firstFailing (withinBound c k) AboveBound 1 (quantities c)
+boundGround c d = firstFailing (withinBound c d) AboveBound 1 (quantities c)
 
 -- 8 to 13
 unfoldable pub groundsFrom8 : Case → List ℕ → Certificate → List Finding
-groundsFrom8 c q k =
+groundsFrom8 c q d =
     unless (lengthRight 44 q) CertificateLength
     ∷ unless (versionRight q) CertificateVersion
-    ∷ unless (sameCounts c k) CountsDiffer
+    ∷ unless (sameCounts c d) CountsDiffer
     ∷ unless (eqb (length q) (certificateSize (c .resources) (c .zones) (c .flowgates))) CertificateSize
-    ∷ priceGround c k
-    ∷ boundGround c k
+    ∷ priceGround c d
+    ∷ boundGround c d
     ∷ []
 
 -- 1 to 11

@@ -19,12 +19,12 @@ use Rattle.reserves.specs.declared.ZonedAmounts.{ZonedAmounts}
 
 -- g+c, g+spin, g, s+o
 unfoldable pub givenBy : Amounts → Kw → CurveAmounts
-givenBy a spin =
+givenBy amounts spin =
     record {
-      operating = kw (a .regulation .0 +ℤ a .contingency .0);
-      «regulating_plus_spinning» = kw (a .regulation .0 +ℤ spin .0);
-      regulating = a .regulation;
-      «short_term» = kw (a .«on_line_short_term» .0 +ℤ a .«off_line_short_term» .0);
+      operating = kw (amounts .regulation .0 +ℤ amounts .contingency .0);
+      «regulating_plus_spinning» = kw (amounts .regulation .0 +ℤ spin .0);
+      regulating = amounts .regulation;
+      «short_term» = kw (amounts .«on_line_short_term» .0 +ℤ amounts .«off_line_short_term» .0);
     }
 
 -- with the zone of the resource that gives it
@@ -32,19 +32,19 @@ unfoldable pub zonedAmountsOf : Case → Schedule → ℕ → ZonedAmounts
 zonedAmountsOf c x i = record { zone = c .resource i .zone; amounts = curveAmountsOf (λ k. reserveOf c x k i) }
 
 -- the sums of two, row by row
-pub record SumsRoom (a b : CurveAmounts) : Type 0 where
-  pub operating : SumRoom (a .operating .0) (b .operating .0)
-  pub regulating-plus-spinning : SumRoom (a .«regulating_plus_spinning» .0) (b .«regulating_plus_spinning» .0)
-  pub regulating : SumRoom (a .regulating .0) (b .regulating .0)
-  pub short-term : SumRoom (a .«short_term» .0) (b .«short_term» .0)
+pub record SumsRoom (amounts amounts′ : CurveAmounts) : Type 0 where
+  pub operating : SumRoom (amounts .operating .0) (amounts′ .operating .0)
+  pub regulating-plus-spinning : SumRoom (amounts .«regulating_plus_spinning» .0) (amounts′ .«regulating_plus_spinning» .0)
+  pub regulating : SumRoom (amounts .regulating .0) (amounts′ .regulating .0)
+  pub short-term : SumRoom (amounts .«short_term» .0) (amounts′ .«short_term» .0)
 
 unfoldable pub addedAmounts : CurveAmounts → CurveAmounts → CurveAmounts
-addedAmounts a b =
+addedAmounts amounts amounts′ =
     record {
-      operating = kw (a .operating .0 +ℤ b .operating .0);
-      «regulating_plus_spinning» = kw (a .«regulating_plus_spinning» .0 +ℤ b .«regulating_plus_spinning» .0);
-      regulating = kw (a .regulating .0 +ℤ b .regulating .0);
-      «short_term» = kw (a .«short_term» .0 +ℤ b .«short_term» .0);
+      operating = kw (amounts .operating .0 +ℤ amounts′ .operating .0);
+      «regulating_plus_spinning» = kw (amounts .«regulating_plus_spinning» .0 +ℤ amounts′ .«regulating_plus_spinning» .0);
+      regulating = kw (amounts .regulating .0 +ℤ amounts′ .regulating .0);
+      «short_term» = kw (amounts .«short_term» .0 +ℤ amounts′ .«short_term» .0);
     }
 
 -- ---- what the first n resources give, of the case in b and the certificate in q
@@ -53,7 +53,7 @@ marketTotal b q n = curveAmountsOf (λ k. sumOf (reserveOf (caseOf b) (certifica
 
 -- to a zone, counted from 0
 abbrev pub zoneTotal : List ℕ → List ℕ → ℕ → ℕ → CurveAmounts
-zoneTotal b q n zone = curveAmountsOf (λ k. sumOf (reserveInZone (caseOf b) (certificateOf q .amount) zone k) (upto n))
+zoneTotal b q n z = curveAmountsOf (λ k. sumOf (reserveInZone (caseOf b) (certificateOf q .amount) z k) (upto n))
 
 -- to each of eight zones, which is as many as a case may have
 abbrev pub zoneTotals : List ℕ → List ℕ → ℕ → List CurveAmounts

@@ -26,33 +26,33 @@ pub record RowChargeRoom (price more less : ℤ) : Type 0 where
 
 -- ---- four reserve rows
 abbrev pub fourCharges : ReservePrices → CurveAmounts → CurveAmounts → List ℤ
-fourCharges p have need =
-    (p .operating .0 *ℤ (have .operating .0 -ℤ need .operating .0))
-    ∷ (p .«regulating_plus_spinning» .0 *ℤ (have .«regulating_plus_spinning» .0 -ℤ need .«regulating_plus_spinning» .0))
-    ∷ (p .regulating .0 *ℤ (have .regulating .0 -ℤ need .regulating .0))
-    ∷ (p .«short_term» .0 *ℤ (have .«short_term» .0 -ℤ need .«short_term» .0))
+fourCharges prices have need =
+    (prices .operating .0 *ℤ (have .operating .0 -ℤ need .operating .0))
+    ∷ (prices .«regulating_plus_spinning» .0 *ℤ (have .«regulating_plus_spinning» .0 -ℤ need .«regulating_plus_spinning» .0))
+    ∷ (prices .regulating .0 *ℤ (have .regulating .0 -ℤ need .regulating .0))
+    ∷ (prices .«short_term» .0 *ℤ (have .«short_term» .0 -ℤ need .«short_term» .0))
     ∷ []
 
-pub record FourRoom (p : ReservePrices) (have need : CurveAmounts) : Type 0 where
-  pub operating : RowChargeRoom (p .operating .0) (have .operating .0) (need .operating .0)
-  pub regulating-plus-spinning : RowChargeRoom (p .«regulating_plus_spinning» .0) (have .«regulating_plus_spinning» .0) (need .«regulating_plus_spinning» .0)
-  pub regulating : RowChargeRoom (p .regulating .0) (have .regulating .0) (need .regulating .0)
-  pub short-term : RowChargeRoom (p .«short_term» .0) (have .«short_term» .0) (need .«short_term» .0)
+pub record FourRoom (prices : ReservePrices) (have need : CurveAmounts) : Type 0 where
+  pub operating : RowChargeRoom (prices .operating .0) (have .operating .0) (need .operating .0)
+  pub regulating-plus-spinning : RowChargeRoom (prices .«regulating_plus_spinning» .0) (have .«regulating_plus_spinning» .0) (need .«regulating_plus_spinning» .0)
+  pub regulating : RowChargeRoom (prices .regulating .0) (have .regulating .0) (need .regulating .0)
+  pub short-term : RowChargeRoom (prices .«short_term» .0) (have .«short_term» .0) (need .«short_term» .0)
 
 -- ---- the five rows of a resource: e+g+c ≤ MAX, e+s ≤ MAX, e-g ≥ MIN, e ≤ HI, e ≥ LO
 abbrev pub fiveCharges : LimitPrices → Amounts → ResourceLimits → List ℤ
-fiveCharges p a l =
-    (p .«max_with_reserve» .0 *ℤ (l .max .0 -ℤ (a .energy .0 +ℤ a .regulation .0 +ℤ a .contingency .0)))
-    ∷ (p .«max_with_short_term» .0 *ℤ (l .max .0 -ℤ (a .energy .0 +ℤ a .«on_line_short_term» .0)))
-    ∷ (p .minimum .0 *ℤ (a .energy .0 -ℤ a .regulation .0 -ℤ l .min .0))
-    ∷ (p .high .0 *ℤ (l .high .0 -ℤ a .energy .0))
-    ∷ (p .low .0 *ℤ (a .energy .0 -ℤ l .low .0))
+fiveCharges prices amounts limits =
+    (prices .«max_with_reserve» .0 *ℤ (limits .max .0 -ℤ (amounts .energy .0 +ℤ amounts .regulation .0 +ℤ amounts .contingency .0)))
+    ∷ (prices .«max_with_short_term» .0 *ℤ (limits .max .0 -ℤ (amounts .energy .0 +ℤ amounts .«on_line_short_term» .0)))
+    ∷ (prices .minimum .0 *ℤ (amounts .energy .0 -ℤ amounts .regulation .0 -ℤ limits .min .0))
+    ∷ (prices .high .0 *ℤ (limits .high .0 -ℤ amounts .energy .0))
+    ∷ (prices .low .0 *ℤ (amounts .energy .0 -ℤ limits .low .0))
     ∷ []
 
-pub record FiveRoom (p : LimitPrices) (a : Amounts) (l : ResourceLimits) : Type 0 where
-  pub amounts : SmallAmounts a
-  pub max-with-reserve : RowChargeRoom (p .«max_with_reserve» .0) (l .max .0) (a .energy .0 +ℤ a .regulation .0 +ℤ a .contingency .0)
-  pub max-with-short-term : RowChargeRoom (p .«max_with_short_term» .0) (l .max .0) (a .energy .0 +ℤ a .«on_line_short_term» .0)
-  pub minimum : RowChargeRoom (p .minimum .0) (a .energy .0 -ℤ a .regulation .0) (l .min .0)
-  pub high : RowChargeRoom (p .high .0) (l .high .0) (a .energy .0)
-  pub low : RowChargeRoom (p .low .0) (a .energy .0) (l .low .0)
+pub record FiveRoom (prices : LimitPrices) (given : Amounts) (limits : ResourceLimits) : Type 0 where
+  pub amounts : SmallAmounts given
+  pub max-with-reserve : RowChargeRoom (prices .«max_with_reserve» .0) (limits .max .0) (given .energy .0 +ℤ given .regulation .0 +ℤ given .contingency .0)
+  pub max-with-short-term : RowChargeRoom (prices .«max_with_short_term» .0) (limits .max .0) (given .energy .0 +ℤ given .«on_line_short_term» .0)
+  pub minimum : RowChargeRoom (prices .minimum .0) (given .energy .0 -ℤ given .regulation .0) (limits .min .0)
+  pub high : RowChargeRoom (prices .high .0) (limits .high .0) (given .energy .0)
+  pub low : RowChargeRoom (prices .low .0) (given .energy .0) (limits .low .0)

@@ -28,7 +28,7 @@ firstFalse n (false ∷ ts) = At n
 
 -- what is found of rows, numbered from n on, of the case in b and the certificate in q
 abbrev pub brokenFrom : List ℕ → List ℕ → ℕ → List Row → Finding
-brokenFrom b q n rs = firstFailing (rowMet (caseOf b) (certificateOf q)) RowBroken n rs
+brokenFrom b q n rows = firstFailing (rowMet (caseOf b) (certificateOf q)) RowBroken n rows
 
 -- the largest number that the first row of a resource may have, and the one after the last row
 abbrev pub mostFirstLimit : ℕ
@@ -41,9 +41,9 @@ mostRow = mostFirstLimit + mostResources * length limits
 pub record Numbered (most n : ℕ) : Type 0 where
   pub to : n ≤ most
 
--- the energy that a certificate gives each of r resources is at most 2,000,000 kW
-pub record EnergyBounded (q : List ℕ) (r : ℕ) : Type 0 where
-  pub most : (i : ℕ) → i < r → certificateOf q .amount (Provided i energy) ≤ 2000000
+-- the energy that a certificate gives each of so many resources is at most 2,000,000 kW
+pub record EnergyBounded (q : List ℕ) (resources : ℕ) : Type 0 where
+  pub most : (i : ℕ) → i < resources → certificateOf q .amount (Provided i energy) ≤ 2000000
 
 -- a reserve row has at least what it needs
 abbrev pub shortTests : CurveAmounts → CurveAmounts → List Bool
@@ -56,10 +56,10 @@ shortTests have need =
 
 -- e+g+c ≤ MAX, e+s ≤ MAX, e-g ≥ MIN, e ≤ HI, e ≥ LO
 abbrev pub limitTests : Amounts → ResourceLimits → List Bool
-limitTests a l =
-    leZ (a .energy .0 +ℤ a .regulation .0 +ℤ a .contingency .0) (l .max .0)
-    ∷ leZ (a .energy .0 +ℤ a .«on_line_short_term» .0) (l .max .0)
-    ∷ leZ (l .min .0) (a .energy .0 -ℤ a .regulation .0)
-    ∷ leZ (a .energy .0) (l .high .0)
-    ∷ leZ (l .low .0) (a .energy .0)
+limitTests amounts limits =
+    leZ (amounts .energy .0 +ℤ amounts .regulation .0 +ℤ amounts .contingency .0) (limits .max .0)
+    ∷ leZ (amounts .energy .0 +ℤ amounts .«on_line_short_term» .0) (limits .max .0)
+    ∷ leZ (limits .min .0) (amounts .energy .0 -ℤ amounts .regulation .0)
+    ∷ leZ (amounts .energy .0) (limits .high .0)
+    ∷ leZ (limits .low .0) (amounts .energy .0)
     ∷ []
