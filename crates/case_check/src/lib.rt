@@ -18,7 +18,7 @@ ghost use lib.Signed.{leZ};
 ghost use Rattle.arith.specs.Sums.{upto, all};
 ghost use Rattle.market.specs.declared.Refusal.the-variants.{FieldRange, StepRule, LimitPair};
 ghost use Rattle.market.specs.Bytes.{u8At, u32At, signed, within};
-ghost use Rattle.market.specs.Case.{energySteps, widthOf};
+ghost use Rattle.market.specs.Case.{energySteps, widthOf, curves, curveNumbered};
 ghost use Rattle.market.specs.CaseFile.{headSize, resourceSize, zonePlace, caseSize, leastCaseSize, resourceAt, caseOf};
 ghost use Rattle.market.specs.CaseCheck.{CountsWithin, lengthRight, versionRight, countsRight, fieldsInRange, stepsFollow, stepsRule, energyStepsRight, pairsOrdered, limitsOrdered};
 ghost use Rattle.market.specs.Records.{countsIn};
@@ -26,6 +26,7 @@ ghost use Rattle.market.specs.Refusals.{firstOf};
 ghost use Rattle.market.specs.Outcome.{caseGrounds, caseAnswer};
 ghost use Rattle.wire.specs.Within.{Within};
 ghost use Rattle.wire.specs.CaseBytes.{CaseBytes};
+ghost use Rattle.case_ranges.specs.Pieces.{ResourcesIn};
 ghost use Rattle.case_check.specs.Stages.{stageOf, shapeOf, Shaped, Staged};
 ghost use Rattle.case_check.specs.Pieces.{offerStarts, offerFollows, offerRight, curveStarts, curveFollows, curveRight, limitsRight};
 
@@ -64,7 +65,7 @@ fn offer_starts(b: &[u8], at: usize) -> bool
 }
 
 fn offer_step_follows(b: &[u8], at: usize, j: usize) -> bool
-    requires { ⌜ Within (now b) (at + 74 + j * 8) 16 ⌝ }
+    requires { ⌜ (Within (now b) at resourceSize) × (j < 9) ⌝ }
     ensures { λ t. ⌜ t ≡ offerFollows (resourceAt (now (b .entry)) at) j ⌝ }
 {
     let width = wire::u32_at(b, at + 74 + j * 8);
@@ -122,8 +123,8 @@ fn offer_right(b: &[u8], at: usize) -> bool
 }
 
 fn offers_right(b: &[u8], resources: usize, zones: usize) -> bool
-    requires { ⌜ Within (now b) (zonePlace zones) (resources * resourceSize) ⌝ }
-    ensures { λ t. ⌜ t ≡ all (offerRight (now (b .entry)) zones) (upto resources) ⌝ }
+    requires { ⌜ ResourcesIn (now b) resources zones ⌝ }
+    ensures { λ t. ⌜ t ≡ all (offerRight (caseOf (now (b .entry)))) (upto resources) ⌝ }
 {
     let mut i: usize = 0;
     while i < resources {
@@ -135,9 +136,10 @@ fn offers_right(b: &[u8], resources: usize, zones: usize) -> bool
     true
 }
 
+// Of the curve of this number.
 fn curve_starts(b: &[u8], curve: usize) -> bool
-    requires { ⌜ Within (now b) (42 + curve * 32) 32 ⌝ }
-    ensures { λ t. ⌜ t ≡ curveStarts (now (b .entry)) curve ⌝ }
+    requires { ⌜ (Within (now b) 0 headSize) × (curve < 4) ⌝ }
+    ensures { λ t. ⌜ t ≡ curveStarts (caseOf (now (b .entry))) (curveNumbered curve) ⌝ }
 {
     let width = wire::u32_at(b, 42 + curve * 32);
     let price = wire::u32_at(b, 46 + curve * 32);
@@ -145,8 +147,8 @@ fn curve_starts(b: &[u8], curve: usize) -> bool
 }
 
 fn curve_step_follows(b: &[u8], curve: usize, j: usize) -> bool
-    requires { ⌜ Within (now b) (42 + curve * 32 + j * 8) 16 ⌝ }
-    ensures { λ t. ⌜ t ≡ curveFollows (now (b .entry)) curve j ⌝ }
+    requires { ⌜ (Within (now b) 0 headSize) × (curve < 4) × (j < 3) ⌝ }
+    ensures { λ t. ⌜ t ≡ curveFollows (caseOf (now (b .entry))) (curveNumbered curve) j ⌝ }
 {
     let width = wire::u32_at(b, 42 + curve * 32 + j * 8);
     let price = wire::u32_at(b, 46 + curve * 32 + j * 8);
@@ -156,8 +158,8 @@ fn curve_step_follows(b: &[u8], curve: usize, j: usize) -> bool
 }
 
 fn curve_follows(b: &[u8], curve: usize) -> bool
-    requires { ⌜ Within (now b) (42 + curve * 32) 32 ⌝ }
-    ensures { λ t. ⌜ t ≡ all (curveFollows (now (b .entry)) curve) (upto 3) ⌝ }
+    requires { ⌜ (Within (now b) 0 headSize) × (curve < 4) ⌝ }
+    ensures { λ t. ⌜ t ≡ all (curveFollows (caseOf (now (b .entry))) (curveNumbered curve)) (upto 3) ⌝ }
 {
     let mut j: usize = 0;
     while j < 3 {
@@ -170,8 +172,8 @@ fn curve_follows(b: &[u8], curve: usize) -> bool
 }
 
 fn curve_right(b: &[u8], curve: usize) -> bool
-    requires { ⌜ Within (now b) (42 + curve * 32) 32 ⌝ }
-    ensures { λ t. ⌜ t ≡ curveRight (now (b .entry)) curve ⌝ }
+    requires { ⌜ (Within (now b) 0 headSize) × (curve < 4) ⌝ }
+    ensures { λ t. ⌜ t ≡ curveRight (caseOf (now (b .entry))) (curveNumbered curve) ⌝ }
 {
     if !curve_starts(b, curve) {
         return false;
@@ -181,7 +183,7 @@ fn curve_right(b: &[u8], curve: usize) -> bool
 
 fn curves_right(b: &[u8]) -> bool
     requires { ⌜ Within (now b) 0 headSize ⌝ }
-    ensures { λ t. ⌜ t ≡ all (curveRight (now (b .entry))) (upto 4) ⌝ }
+    ensures { λ t. ⌜ t ≡ all (curveRight (caseOf (now (b .entry)))) curves ⌝ }
 {
     let mut curve: usize = 0;
     while curve < 4 {
@@ -228,8 +230,8 @@ fn pairs_ordered(b: &[u8], at: usize) -> bool
 }
 
 fn limits_right(b: &[u8], resources: usize, zones: usize) -> bool
-    requires { ⌜ Within (now b) (zonePlace zones) (resources * resourceSize) ⌝ }
-    ensures { λ t. ⌜ t ≡ all (limitsRight (now (b .entry)) zones) (upto resources) ⌝ }
+    requires { ⌜ ResourcesIn (now b) resources zones ⌝ }
+    ensures { λ t. ⌜ t ≡ all (limitsRight (caseOf (now (b .entry)))) (upto resources) ⌝ }
 {
     let mut i: usize = 0;
     while i < resources {

@@ -2,8 +2,13 @@
 // Each function tests some fields; all but one end at the first that is out of range. They ask that these fields lie within the
 // file; `fields_in_range` asks that the file is past refusals 1 to 4. Those of one resource or one flowgate are given its place.
 use market::Counts;
+use market::FACTOR_SIZE;
+use market::FLOWGATE_HEAD_SIZE;
+use market::HEAD_SIZE;
+use market::RESOURCE_SIZE;
 use market::Status;
 use market::StatusRead;
+use market::ZONE_SIZE;
 ghost use mathlib.Core.Path.{_≡_};
 ghost use Prim.Native.Nat.{_+_, _*_, _<_};
 ghost use lib.ListN.{length};
@@ -149,13 +154,13 @@ fn resources_in_range(b: &[u8], resources: usize, zones: usize) -> bool
     requires { ⌜ ResourcesIn (now b) resources zones ⌝ }
     ensures { λ t. ⌜ t ≡ all (resourceNumberedInRange (caseOf (now (b .entry)))) (upto resources) ⌝ }
 {
-    let end = 170 + zones * 16 + resources * 154;
-    let mut at = 170 + zones * 16;
+    let end = HEAD_SIZE + zones * ZONE_SIZE + resources * RESOURCE_SIZE;
+    let mut at = HEAD_SIZE + zones * ZONE_SIZE;
     while at < end {
         if !resource_in_range(b, at, zones) {
             return false;
         }
-        at += 154;
+        at += RESOURCE_SIZE;
     }
     true
 }
@@ -238,7 +243,7 @@ fn zones_in_range(b: &[u8], zones: usize) -> bool
 {
     let mut z: usize = 0;
     while z < zones {
-        if !all_at_most(b, 170 + z * 16, 4, 2000000) {
+        if !all_at_most(b, HEAD_SIZE + z * ZONE_SIZE, 4, 2000000) {
             return false;
         }
         z += 1;
@@ -250,7 +255,11 @@ fn factor_in_range(b: &[u8], at: usize, i: usize) -> bool
     requires { ⌜ Within (now b) (at + flowgateHeadSize + i * factorSize) factorSize ⌝ }
     ensures { λ t. ⌜ t ≡ factorInRange (now (b .entry)) at i ⌝ }
 {
-    either_way(wire::u16_at(b, at + 4 + i * 2), 32768, 1000)
+    either_way(
+        wire::u16_at(b, at + FLOWGATE_HEAD_SIZE + i * FACTOR_SIZE),
+        32768,
+        1000,
+    )
 }
 
 // Every one is looked at, also after one that is out of range: with no way out of the loop the compiler tests several at once.
@@ -286,7 +295,10 @@ fn flowgates_in_range(b: &[u8], resources: usize, zones: usize, flowgates: usize
     while f < flowgates {
         if !flowgate_in_range(
             b,
-            170 + zones * 16 + resources * 154 + f * (4 + resources * 2),
+            HEAD_SIZE
+                + zones * ZONE_SIZE
+                + resources * RESOURCE_SIZE
+                + f * (FLOWGATE_HEAD_SIZE + resources * FACTOR_SIZE),
             resources,
         ) {
             return false;

@@ -10,12 +10,16 @@ ghost use Rattle.market.specs.CaseFile.{resourceSize, pairPlace, shareOrder, re
 ghost use Rattle.market.specs.Records.{kw, shiftFactor, power, minutes, offerStepOf, offerStepsOf, stateOf, outputLimitsOf, rampsOf, otherPowersOf, reserveOffersOf, recordOf, reserveTermsOf, termsOf, curveStepOf, curveStepsOf, zoneRequirementsOf};
 ghost use Rattle.case_records.specs.Places.{HeadIn, CurveIn, ZoneIn, ResourceIn, FlowgateIn, FactorIn};
 use market::CurveSteps;
+use market::FACTOR_SIZE;
+use market::FLOWGATE_HEAD_SIZE;
 use market::Flags;
+use market::HEAD_SIZE;
 use market::Kw;
 use market::Minutes;
 use market::OfferSteps;
 use market::OtherPowers;
 use market::OutputLimits;
+use market::RESOURCE_SIZE;
 use market::Ramps;
 use market::ReserveOffers;
 use market::ReserveTerms;
@@ -25,6 +29,7 @@ use market::State;
 use market::Status;
 use market::Step;
 use market::Terms;
+use market::ZONE_SIZE;
 use market::ZoneRequirements;
 
 // ---- a resource, whose 154 bytes begin at `at`
@@ -149,7 +154,7 @@ pub fn resource_at(b: &[u8], zones: usize, i: usize) -> Resource
     requires { ⌜ ResourceIn (now b) zones i ⌝ }
     ensures { λ r. ⌜ r ≡ recordOf (caseOf (now (b .entry)) .resource i) ⌝ }
 {
-    resource_from(b, 170 + zones * 16 + i * 154)
+    resource_from(b, HEAD_SIZE + zones * ZONE_SIZE + i * RESOURCE_SIZE)
 }
 
 // The energy steps of resource i.
@@ -157,7 +162,7 @@ pub fn offer_steps(b: &[u8], zones: usize, i: usize) -> OfferSteps
     requires { ⌜ ResourceIn (now b) zones i ⌝ }
     ensures { λ r. ⌜ r ≡ offerStepsOf (caseOf (now (b .entry)) .resource i) ⌝ }
 {
-    offer_steps_at(b, 170 + zones * 16 + i * 154)
+    offer_steps_at(b, HEAD_SIZE + zones * ZONE_SIZE + i * RESOURCE_SIZE)
 }
 
 // ---- zones, counted from 0
@@ -167,7 +172,7 @@ fn requirement_at(b: &[u8], z: usize, k: usize) -> Kw
     requires { ⌜ ZoneIn (now b) z × (k < length curves) ⌝ }
     ensures { λ r. ⌜ r ≡ power (caseOf (now (b .entry)) .zoneRequirement z (curveNumbered k)) ⌝ }
 {
-    wire::kw_at(b, 170 + z * 16 + k * 4)
+    wire::kw_at(b, HEAD_SIZE + z * ZONE_SIZE + k * 4)
 }
 
 pub fn zone_at(b: &[u8], z: usize) -> ZoneRequirements
@@ -272,7 +277,10 @@ pub fn flowgate_limit_at(b: &[u8], resources: usize, zones: usize, f: usize) -> 
 {
     wire::signed_kw_at(
         b,
-        170 + zones * 16 + resources * 154 + f * (4 + resources * 2),
+        HEAD_SIZE
+            + zones * ZONE_SIZE
+            + resources * RESOURCE_SIZE
+            + f * (FLOWGATE_HEAD_SIZE + resources * FACTOR_SIZE),
     )
 }
 
@@ -282,6 +290,11 @@ pub fn shift_factor_at(b: &[u8], resources: usize, zones: usize, f: usize, i: us
 {
     ShiftFactor(wire::i16_at(
         b,
-        170 + zones * 16 + resources * 154 + f * (4 + resources * 2) + 4 + i * 2,
+        HEAD_SIZE
+            + zones * ZONE_SIZE
+            + resources * RESOURCE_SIZE
+            + f * (FLOWGATE_HEAD_SIZE + resources * FACTOR_SIZE)
+            + FLOWGATE_HEAD_SIZE
+            + i * FACTOR_SIZE,
     ))
 }

@@ -8,18 +8,25 @@ ghost use Rattle.market.specs.Records.{cents, millicents, amountsOf, limitPrice
 ghost use Rattle.wire.specs.Within.{Within};
 ghost use Rattle.certificate_records.specs.CertificateBytes.{CertificateBytes, PricesFrom};
 use market::Amounts;
+use market::CERTIFICATE_HEAD_SIZE;
 use market::Cents;
 use market::CurveAmounts;
+use market::ENTRY_SIZE;
+use market::FLOWGATE_PRICE_SIZE;
 use market::LimitPrices;
 use market::Millicents;
 use market::ReservePrices;
+use market::ZONE_PRICES_SIZE;
 
 // What resource i is given.
 pub fn amounts_at(q: &[u8], r: usize, z: usize, f: usize, i: usize) -> Amounts
     requires { ⌜ CertificateBytes (now q) r z f × (i < r) ⌝ }
     ensures { λ a. ⌜ a ≡ amountsOf (certificateOf (now (q .entry)) .amount) i ⌝ }
 {
-    let at = 44 + z * 16 + f * 4 + i * 40;
+    let at = CERTIFICATE_HEAD_SIZE
+        + z * ZONE_PRICES_SIZE
+        + f * FLOWGATE_PRICE_SIZE
+        + i * ENTRY_SIZE;
     Amounts {
         energy: wire::kw_at(q, at),
         regulation: wire::kw_at(q, at + 4),
@@ -34,7 +41,10 @@ pub fn limit_prices_at(q: &[u8], r: usize, z: usize, f: usize, i: usize) -> Limi
     requires { ⌜ CertificateBytes (now q) r z f × (i < r) ⌝ }
     ensures { λ p. ⌜ p ≡ limitPricesOf (certificateOf (now (q .entry)) .price) i ⌝ }
 {
-    let at = 44 + z * 16 + f * 4 + i * 40;
+    let at = CERTIFICATE_HEAD_SIZE
+        + z * ZONE_PRICES_SIZE
+        + f * FLOWGATE_PRICE_SIZE
+        + i * ENTRY_SIZE;
     LimitPrices {
         max_with_reserve: wire::millicents_at(q, at + 20),
         max_with_short_term: wire::millicents_at(q, at + 24),
@@ -83,7 +93,7 @@ pub fn zone_prices_at(q: &[u8], r: usize, z: usize, f: usize, zone: usize) -> Re
     requires { ⌜ CertificateBytes (now q) r z f × (zone < z) ⌝ }
     ensures { λ p. ⌜ p ≡ reservePricesOf (certificateOf (now (q .entry)) .price) (Zone zone) ⌝ }
 {
-    reserve_prices_at(q, 44 + zone * 16)
+    reserve_prices_at(q, CERTIFICATE_HEAD_SIZE + zone * ZONE_PRICES_SIZE)
 }
 
 // The price of row 1.
@@ -99,5 +109,8 @@ pub fn flowgate_price_at(q: &[u8], r: usize, z: usize, f: usize, flowgate: usize
     requires { ⌜ CertificateBytes (now q) r z f × (flowgate < f) ⌝ }
     ensures { λ p. ⌜ p ≡ cents (certificateOf (now (q .entry)) .price (Flowgate flowgate)) ⌝ }
 {
-    wire::cents_at(q, 44 + z * 16 + flowgate * 4)
+    wire::cents_at(
+        q,
+        CERTIFICATE_HEAD_SIZE + z * ZONE_PRICES_SIZE + flowgate * FLOWGATE_PRICE_SIZE,
+    )
 }

@@ -2,32 +2,40 @@
 use mathlib.Core.Path.{_≡_, refl}
 use Prim.Native.Nat.{ℕ, _+_, _*_, _≤_}
 use native.Mathlib.Omega.{arith}
+use lib.ListN.{length}
 use Rattle.arith.specs.Sums.{totalOf, upto, across}
-use Rattle.market.specs.Case.{Case}
-use Rattle.market.specs.UpperBounds.{energy, regulation, contingency, onLineShortTerm, offLineShortTerm, Quantity, Cleared, Provided, quantities}
-use Rattle.market.specs.Rows.{Row, Balance, Market, Zone, Flowgate, Limited, Limit, maxWithReserve, maxWithShortTerm, minimum, high, low, rows}
+use Rattle.market.specs.Case.{Case, curves, curveSteps}
+use Rattle.market.specs.CaseCheck.{mostResources, mostZones, mostFlowgates}
+use Rattle.market.specs.UpperBounds.{services, energy, regulation, contingency, onLineShortTerm, offLineShortTerm, Quantity, Cleared, Provided, quantities}
+use Rattle.market.specs.Rows.{Row, Balance, Market, Zone, Flowgate, Limited, Limit, maxWithReserve, maxWithShortTerm, minimum, high, low, limits, rows}
 use Rattle.market.specs.Certificate.{highestPrice}
 use Rattle.market.proofs.LargestCase.{largest}
-use Rattle.market.specs.Sizes.{mostDemand, mostFactor, mostLimit, mostCoefficient, mostRight, mostAmount, mostPrice, mostNet}
+use Rattle.market.specs.Sizes.{mostPower, mostCents, mostDemand, mostCurveWidth, mostZoneRequirement, mostFlowgateLimit, mostFactor, mostLimit, mostCoefficient, mostRight, mostAmount, mostPrice, mostServiceNet, mostCurveNet, mostNet}
 
 -- ---- figures, computed over the largest case
 -- all amounts together, in kW
 abbrev pub mostAmounts : ℕ
-mostAmounts = 768000000
+mostAmounts = length curves * (curveSteps * mostCurveWidth) + mostResources * (length services * mostPower)
 
 -- in grains: a schedule's cost; over all that is priced, net price × width; over all rows, row price × right side
 abbrev pub mostCost : ℕ
-mostCost = 307200000000000000
+mostCost = mostPrice * mostAmounts
 
 abbrev pub mostProducts : ℕ
-mostProducts = 2355200000000000000
+mostProducts =
+    length curves * (mostCurveNet * (curveSteps * mostCurveWidth))
+    + mostResources * ((mostServiceNet energy + mostServiceNet regulation + mostServiceNet contingency + mostServiceNet onLineShortTerm + mostServiceNet offLineShortTerm) * mostPower)
 
 abbrev pub mostRowTerms : ℕ
-mostRowTerms = 512000000000000000
+mostRowTerms =
+    mostPrice * mostDemand
+    + mostZones * (length curves * (mostPrice * mostZoneRequirement))
+    + mostFlowgates * (mostCents * (1000 * mostFlowgateLimit))
+    + mostResources * (mostPrice * (mostLimit maxWithReserve + mostLimit maxWithShortTerm + mostLimit minimum + mostLimit high + mostLimit low))
 
 -- in thousandths of a cent: over all rows, row price × a quantity's coefficient
 abbrev pub mostTaken : ℕ
-mostTaken = 149200000000
+mostTaken = (1 + length curves + mostZones * length curves + mostFlowgates + mostResources * length limits) * mostPrice
 
 module _ (c : Case) where
   pub amounts-figure : totalOf mostAmount (quantities (largest c)) ≡ mostAmounts

@@ -1,30 +1,33 @@
 -- `case_check::limits_right` meets its contract. The invariant: the pairs of every resource passed are ordered; the measure is what is left. Assumes nothing.
 use mathlib.Core.Bool.{true}
-use mathlib.Core.Path.{_≡_, sym}
+use mathlib.Core.Path.{_≡_, sym, ap, _∙_}
 use Prim.Native.Nat.{_≤_, _-_}
 use native.Mathlib.Omega.{arith}
 use borrow.Author.Needs.{needs}
 use Rattle.arith.proofs.AllTests.{all-none, all-more, all-stop}
 use Rattle.arith.specs.Sums.{upto, all}
+use Rattle.market.specs.CaseFile.{caseOf}
+use Rattle.market.specs.CaseCheck.{pairsOrdered}
 use Rattle.case_ranges.proofs.Laws.{passed, failed}
 use Rattle.case_check.specs.Pieces.{limitsRight}
+use Rattle.case_check.proofs.Places.{resource-is}
 use Rattle.case_check.proofs.limits_right.Statement.{statement}
 use Rattle.case_check.proofs.limits_right.Tie as tie
 
 abbrev Inv-loop : tie.InvT-loop
-Inv-loop b resources zones i₀ i = (i ≤ resources) × (all (limitsRight b zones) (upto i) ≡ true)
+Inv-loop b resources zones i₀ i = (i ≤ resources) × (all (limitsRight (caseOf b)) (upto i) ≡ true)
 
 abbrev μ-loop : tie.MeasureT-loop
 μ-loop b resources zones i₀ i = resources - i
 
 loop-holds : tie.Need-loop-holds Inv-loop μ-loop
-loop-holds c = (omega arith, all-none (limitsRight (c .before .args .b .now) (c .before .args .zones)))
+loop-holds c = (omega arith, all-none (limitsRight (caseOf (c .before .args .b .now))))
 
 returns : tie.Need-returns Inv-loop μ-loop
-returns c = sym (all-stop (limitsRight (c .before .before .before .before .before .args .b .now) (c .before .before .before .before .before .args .zones)) _ (c .before .before .before .loop .i) (omega arith) (failed (c .before .pairs-ordered .ensures) (c .if1 .taken)))
+returns c = sym (all-stop (limitsRight (caseOf (c .before .before .before .before .before .args .b .now))) _ (c .before .before .before .loop .i) (omega arith) (failed (c .before .pairs-ordered .ensures ∙ ap pairsOrdered (resource-is (c .before .before .before .before .before .args .b .now) (c .before .before .before .before .before .pre .0) _)) (c .if1 .taken)))
 
 loop-again : tie.Need-loop-again Inv-loop μ-loop
-loop-again c = (search needs, all-more (limitsRight (c .before .before .before .before .before .args .b .now) (c .before .before .before .before .before .args .zones)) _ (c .before .before .before .loop .inv .1) (passed (c .before .pairs-ordered .ensures) (c .if1 .left)))
+loop-again c = (search needs, all-more (limitsRight (caseOf (c .before .before .before .before .before .args .b .now))) _ (c .before .before .before .loop .inv .1) (passed (c .before .pairs-ordered .ensures ∙ ap pairsOrdered (resource-is (c .before .before .before .before .before .args .b .now) (c .before .before .before .before .before .pre .0) _)) (c .if1 .left)))
 
 returns-2 : tie.Need-returns-2 Inv-loop μ-loop
 returns-2 c = let e : c .before .loop .i ≡ c .before .before .before .args .resources = omega arith in rw (← e) (sym (c .before .loop .inv .1))
