@@ -12,7 +12,6 @@ use Rattle.market.specs.Case.{Case, energySteps, curveSteps}
 use Rattle.market.specs.declared.CurveSteps.{CurveSteps}
 use Rattle.market.specs.declared.OfferSteps.{OfferSteps}
 use Rattle.market.specs.UpperBounds.{regulation, contingency, onLineShortTerm, offLineShortTerm}
-use Rattle.market.specs.Cost.{pricedUpperBound}
 use Rattle.market.specs.Records.{offerStepOf, offerStepsOf}
 use Rattle.market.proofs.Ranges.{CaseRanges}
 use Rattle.market.proofs.LimitSizes.{service-most}

@@ -19,7 +19,7 @@ ghost use Rattle.arith.specs.Sums.{upto, all};
 ghost use Rattle.market.specs.declared.Refusal.the-variants.{FieldRange, StepRule, LimitPair};
 ghost use Rattle.market.specs.Bytes.{u8At, u32At, signed, within};
 ghost use Rattle.market.specs.Case.{energySteps, widthOf, curves, curveNumbered};
-ghost use Rattle.market.specs.CaseFile.{headSize, resourceSize, zonePlace, caseSize, leastCaseSize, resourceAt, caseOf};
+ghost use Rattle.market.specs.CaseFile.{headSize, resourceSize, caseSize, resourceAt, caseOf};
 ghost use Rattle.market.specs.CaseCheck.{CountsWithin, lengthRight, versionRight, countsRight, fieldsInRange, stepsFollow, stepsRule, energyStepsRight, pairsOrdered, limitsOrdered};
 ghost use Rattle.market.specs.Records.{countsIn};
 ghost use Rattle.market.specs.Refusals.{firstOf};
@@ -90,7 +90,7 @@ fn offer_follows(b: &[u8], at: usize) -> bool
     right
 }
 
-pub fn wide(x: u32) -> u64
+fn wide(x: u32) -> u64
     ensures { λ r. ⌜ (r ≡ x) × (r < 4294967296) ⌝ }
 {
     x as u64
@@ -253,10 +253,12 @@ fn limits_ordered(b: &[u8], n: Counts) -> bool
 }
 
 // ---- 1 to 4: the file's shape
-fn length_right(b: &[u8]) -> bool
-    ensures { λ t. ⌜ t ≡ lengthRight leastCaseSize (now (b .entry)) ⌝ }
+// 1, and 8 of a certificate: at least so many bytes, and as many as the length field says.
+pub fn length_right(b: &[u8], least: usize) -> bool
+    requires { ⌜ 4 ≤ least ⌝ }
+    ensures { λ t. ⌜ t ≡ lengthRight least (now (b .entry)) ⌝ }
 {
-    if b.len() < HEAD_SIZE {
+    if b.len() < least {
         return false;
     }
     wide(wire::u32_at(b, 0)) + 4 == b.len() as u64
@@ -317,7 +319,7 @@ fn size_right(b: &[u8], n: Counts) -> bool
 fn shape_stage(b: &[u8]) -> Stage
     ensures { λ r. ⌜ (r ≡ shapeOf (now (b .entry))) × Shaped (now (b .entry)) r ⌝ }
 {
-    if !length_right(b) {
+    if !length_right(b, HEAD_SIZE) {
         return Stage::Refused(Refusal::CaseLength);
     }
     if !version_right(b) {

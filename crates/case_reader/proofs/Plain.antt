@@ -1,7 +1,7 @@
 -- What the walks by hand of the functions of PlainContracts.antt share: what goes to the two calls, what is had at exit, from a walk to the contract.
 -- The walks themselves are in PlainWalks.antt.
 -- All that is known of the two is that each meets its contract. Assumes nothing.
-use Rattle.case_reader.proofs.Walk.{_≡_, ℕ, List, [], _∷_, length, URA, named, Val, SProp, ent, sep, snd∗, exE, Lft, Share, Fml, ftrue, flft, Memory, Routine, Heap, Calls, Loops, WpFn, Tables, Atoms, sem, Fun, fact, givenOf, tables, Given, ‵, raw, _⊛_, ⋆, _$_, _∵_, !, qed, move, drop, use1, use2, split, join, fsplit, fjoin, suffices, frame, done, fmOf, FmC, WpFn-mono, owns, Is, u8, RefT, now, plain, sliceVal, ShrSlice, slice-vals, shr-slice-tells, shr-slice-copy, Triple, onEntry, Meets, tripleOf, entered, cited, says, needs, walkOf, goes-none-slice, ends-at, walked, walk-meets, yes, ensured, lasts, tablesOf, Running, GhostRules, Name, call, Model, Env, Closed, use0, flat, closing, hasOf}
+use Rattle.case_reader.proofs.Walk.{_≡_, ℕ, List, [], _∷_, length, URA, named, Val, SProp, ent, sep, snd∗, exE, Lft, Share, Fml, ftrue, flft, Memory, Routine, Heap, Calls, Loops, WpFn, Tables, Atoms, sem, Fun, fact, givenOf, tables, Given, ‵, raw, _⊛_, ⋆, _$_, _∵_, !, qed, move, drop, use1, use2, split, join, fsplit, fjoin, suffices, frame, done, fmOf, FmC, WpFn-mono, owns, Is, u8, RefT, now, plain, sliceVal, ShrSlice, slice-vals, shr-slice-tells, shr-slice-copy, Triple, onEntry, Meets, tripleOf, entered, cited, says, needs, walkOf, goes-none-slice, ends-at, walked, walk-meets, yes, ensured, lasts, tablesOf, Running, GhostRules, Name, Model, Env, Closed, use0, flat, closing, hasOf}
 use Rattle.case_reader.proofs.Numbers.{ints, kepts, stays, Ints, Numbers, spells, tells, words, Fit, ends, ends-fit, go, own-numbers, has-numbers}
 use Rattle.case_reader.proofs.ThinContracts.{B, Shape, Thin}
 use Rattle.case_reader.proofs.ThinContracts as thin

@@ -3,7 +3,7 @@
 -- The struct is Copy: what it owns is had twice, one copy is kept whole for the exit, and of the other what the slice owns goes to the callee, beside the lifetime's token, which comes back.
 -- All that is known of the callee is that it meets its contract. Assumes nothing.
 use denote.Struct.Laws as LL
-use Rattle.case_reader.proofs.Walk.{_≡_, refl, ℕ, List, [], _∷_, Holds, length, URA, named, Val, WT, hasTy, SProp, ent, sep, snd∗, exE, Lft, Share, Fml, ftrue, flft, Routine, Heap, Calls, Loops, WpFn, Tables, Atoms, sem, fact, givenOf, tables, Given, ‵, raw, _⊛_, given, ⋆, _$_, _∵_, !, qed, move, drop, use1, use2, split, learn, fsplit, fjoin, suffices, frame, done, fmOf, FmC, WpFn-mono, RattleType, owns, Is, u8, now, namedLft, sliceVal, ShrSlice, Declared, all-own, ownAt, rest, own-open, own-out, Values, Triple, onEntry, Meets, tripleOf, entered, cited, says, needs, walkOf, goes-none, ends-at, walked, walk-meets, yes, ensured, lasts, id⊢, Item, Goal, Seq, Soaks, mean, some, later, pick, await, heard, peeks, shows, tablesOf, Running, GhostRules, Name, call, copy, Model, Env, Closed, use0, flat, closing, hasOf}
+use Rattle.case_reader.proofs.Walk.{_≡_, refl, ℕ, List, [], _∷_, Holds, length, URA, named, Val, WT, hasTy, SProp, ent, sep, snd∗, exE, Lft, Share, Fml, ftrue, flft, Routine, Heap, Calls, Loops, WpFn, Tables, Atoms, sem, fact, givenOf, tables, Given, ‵, raw, _⊛_, given, ⋆, _$_, _∵_, !, qed, move, drop, use1, use2, split, learn, fsplit, fjoin, suffices, frame, done, fmOf, FmC, WpFn-mono, RattleType, owns, Is, u8, now, namedLft, sliceVal, ShrSlice, Declared, all-own, ownAt, rest, own-open, own-out, Values, Triple, onEntry, Meets, tripleOf, entered, cited, says, needs, walkOf, goes-none, ends-at, walked, walk-meets, yes, ensured, lasts, id⊢, Item, Goal, Seq, Soaks, mean, some, later, pick, await, heard, peeks, shows, tablesOf, Running, GhostRules, Name, copy, Model, Env, Closed, use0, flat, closing, hasOf}
 use Rattle.case_reader.proofs.Numbers.{ints, kepts, stays, Ints, Numbers, spells, tells, words, Fit, ends, ends-fit, go, own-numbers, has-numbers}
 use Rattle.case_reader.specs.declared.CaseReader.{CaseReader}
 use Rattle.case_reader.proofs.CaseReader as T

@@ -9,8 +9,8 @@ ghost use mathlib.Core.Path.{_≡_};
 ghost use Prim.Native.Nat.{_+_, _*_, _<_, _≤_};
 ghost use Rattle.arith.specs.Sums.{upto, all};
 ghost use Rattle.market.specs.Case.{Case};
-ghost use Rattle.market.specs.CaseCheck.{CountsWithin, lengthRight};
-ghost use Rattle.market.specs.Certificate.{certificateHeadSize, zonePricesSize, leastCertificateSize, certificateOf};
+ghost use Rattle.market.specs.CaseCheck.{CountsWithin};
+ghost use Rattle.market.specs.Certificate.{certificateHeadSize, zonePricesSize, certificateOf};
 ghost use Rattle.market.specs.Records.{countsIn};
 ghost use Rattle.market.specs.Refusals.{firstOf};
 ghost use Rattle.market.specs.Rows.{rows};
@@ -22,15 +22,6 @@ ghost use Rattle.certificate_form.specs.Form.{formGrounds, countsAre, si
 ghost use Rattle.certificate_form.specs.PricePlaces.{zonePriced, limitsPriced};
 
 // ---- 8 to 11: the file's form
-pub fn length_right(q: &[u8]) -> bool
-    ensures { λ t. ⌜ t ≡ lengthRight leastCertificateSize (now (q .entry)) ⌝ }
-{
-    if q.len() < CERTIFICATE_HEAD_SIZE {
-        return false;
-    }
-    case_check::wide(wire::u32_at(q, 0)) + 4 == q.len() as u64
-}
-
 fn same_counts(q: &[u8], n: Counts) -> bool
     requires { ⌜ Within (now q) 0 certificateHeadSize ⌝ }
     ensures { λ t. ⌜ t ≡ countsAre (now (q .entry)) n ⌝ }
@@ -55,7 +46,7 @@ pub fn form(q: &[u8], n: Counts) -> Stage
     requires { ⌜ CountsWithin (n .resources) (n .zones) (n .flowgates) ⌝ }
     ensures { λ r. ⌜ ((c : Case) → n ≡ countsIn c → r ≡ stageOf n (firstOf (formGrounds c (now (q .entry))))) ⌝ }
 {
-    if !length_right(q) {
+    if !case_check::length_right(q, CERTIFICATE_HEAD_SIZE) {
         return Stage::Refused(Refusal::CertificateLength);
     }
     if !case_check::version_right(q) {

@@ -2,11 +2,10 @@
 use mathlib.Core.Path.{_≡_}
 use Prim.Native.Nat.{ℕ, _≤_, _<_}
 use lib.IntN.{pos}
-use Rattle.arith.specs.Sums.{all, upto}
-use Rattle.market.specs.Case.{Case, Resource, Curve, Reserve}
+use Rattle.market.specs.Case.{Case, Resource, Reserve}
 use Rattle.market.specs.CaseCheck.{mostResources, mostZones, mostFlowgates, countsRight, reserveInRange, resourceInRange, flowgateInRange, fieldsInRange, pairsOrdered, limitsOrdered, powers, ramps, reservePrices}
 use Rattle.market.specs.Rows.{Balance, Market, Zone, Flowgate, Limited}
-use Rattle.market.specs.CheckInWords.{Between, EitherWay, ReserveWithin, ResourceWithin, FlowgateWithin, FieldsWithin, PairsInOrder, CheckInWords}
+use Rattle.market.specs.CheckInWords.{Between, ReserveWithin, ResourceWithin, FlowgateWithin, FieldsWithin, PairsInOrder, CheckInWords}
 use Rattle.market.proofs.Tests.{Decides, exactly, reworded, both, le-test, leℤ-test, between-test, most-test, either-test, each-test, below-test, curves-test, reserves-test}
 use Rattle.market.proofs.StepOrder.{steps-rule-test}
 

@@ -14,8 +14,8 @@ use Rattle.market.specs.Case.{curves, energySteps}
 use Rattle.market.specs.CaseFile.{headSize, factorSize, flowgateHeadSize, flowgateSize, zonePlace, resourcePlace, flowgatePlace, resourceAt, caseOf}
 use Rattle.market.specs.Rows.{Zone}
 use Rattle.market.specs.Certificate.{certificateHeadSize, zonePricesPlace, flowgatePricePlace, amountsPlace, amountAt, priceAt, certificateOf}
-use Rattle.market.specs.Numbers.{Field, u8, u16, u32, i16, i32, fieldWidth, fieldAt, numbersAt, times, headFields, curveFields, resourceFields, flowgateFields, caseFields, certificateHeadFields, entryFields, certificateFields, numbersOf, caseNumbers, certificateNumbers}
-use Rattle.market.specs.FieldsInOrder.{FieldsInOrder, headFigures, zoneFigures, resourceFigures, flowgateFigures, caseFigures, resourceClaims, certificateFigures}
+use Rattle.market.specs.Numbers.{Field, u8, u32, i16, i32, fieldWidth, fieldAt, numbersAt, times, headFields, curveFields, resourceFields, flowgateFields, caseFields, certificateHeadFields, entryFields, certificateFields, numbersOf, caseNumbers, certificateNumbers}
+use Rattle.market.specs.FieldsInOrder.{FieldsInOrder, zoneFigures, resourceFigures, flowgateFigures, caseFigures, resourceClaims, certificateFigures}
 use Rattle.market.proofs.FileSizes.{times-width}
 
 -- ---- lists of fields one behind the other

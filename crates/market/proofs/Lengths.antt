@@ -8,7 +8,7 @@ use Rattle.arith.specs.Sums.{upto, across}
 use Rattle.arith.proofs.Lists.{length-across, length-upto}
 use Rattle.market.specs.Case.{Case, curves, energySteps, curveSteps}
 use Rattle.market.specs.UpperBounds.{Schedule, reserveServices, services, Provided, quantities}
-use Rattle.market.specs.Rows.{rows, rowCount, Zone, Flowgate, Limited, limits, marketRows, zoneRows, flowgateRows, limitRows}
+use Rattle.market.specs.Rows.{rows, rowCount, Zone, Flowgate, Limited, limits, zoneRows, flowgateRows, limitRows}
 use Rattle.market.specs.Certificate.{Prices}
 use Rattle.market.specs.Cost.{priced, pricedOf, resourcePricedCount, pricedCount, curvePriced, EnergyStep, Whole, CurveStep}
 use Rattle.market.specs.Charges.{rowCharge, pricedCharge, charges, chargeCount}

@@ -14,7 +14,7 @@ use Rattle.market.specs.declared.Transfer.the-variants.{Written}
 use Rattle.market.specs.CaseFile.{leastCaseSize, caseOf, caseSize}
 use Rattle.market.specs.CaseCheck.{caseSizeRight}
 use Rattle.market.specs.Certificate.{leastCertificateSize, certificateSize}
-use Rattle.market.specs.Refusals.{Finding, clear, holds, unless, firstOf, transferOf, bufferAfter, AllClear}
+use Rattle.market.specs.Refusals.{Finding, clear, holds, firstOf, transferOf, bufferAfter, AllClear}
 use Rattle.market.specs.Outcome.{caseGrounds, room}
 use Rattle.market.specs.Numbers.{caseFields, certificateFields, numbersOf, caseNumbers, certificateNumbers, certificateFileGrounds, caseFile, fieldGrounds, readCaseGrounds, readCertificateGrounds, readCase, readCertificate, readCaseBuffer, readCertificateBuffer, fileFor, listGrounds, writeCaseGrounds, writeCertificateGrounds, writeCase, writeCertificate, writeCaseBuffer, writeCertificateBuffer}
 use Rattle.market.specs.RoundTrips.{RoundTrip, RoundTrips}

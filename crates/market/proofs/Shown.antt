@@ -1,10 +1,9 @@
 -- The wrong turns of 01, and that the promise is not an empty one: K's.
-use mathlib.Core.Path.{_≡_, _∙_, ap}
-use mathlib.Core.Bool.{true, false}
+use mathlib.Core.Path.{_≡_, _∙_}
 use Prim.Native.Nat.{ℕ, suc, _+_, _*_, _/_, _%_, _<_, _≤_}
 use native.Mathlib.Nat.{div-add-mod', mod-lt}
 use native.Mathlib.Omega.{arith}
-use lib.IntN.{ℤ, pos, _*ℤ_, _-ℤ_, +ℤ-idr}
+use lib.IntN.{pos, _*ℤ_, _-ℤ_, +ℤ-idr}
 use Rattle.arith.specs.Sums.{sumOf, upto}
 use Rattle.market.specs.Limits.{MAX, MIN}
 use Rattle.market.specs.UpperBounds.{RAMP, SHARE}

@@ -7,7 +7,6 @@ use native.Mathlib.Numerals.{add-one}
 use native.Mathlib.Omega.{arith}
 use lib.IntN.{ℤ, pos}
 use lib.Signed.{_≤ℤ_}
-use Rattle.arith.specs.Sums.{upto, all}
 use Rattle.arith.proofs.Order.{≤ℤ-trans}
 use Rattle.market.specs.Case.{Case, Resource, Curve, widthOf}
 use Rattle.market.specs.CaseCheck.{stepsFollow, stepsRight, neverFalls, neverRises, energyStepsRight, stepsRule}

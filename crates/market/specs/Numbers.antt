@@ -1,7 +1,7 @@
 -- Files as lists of numbers: every field but length and version, in order (01, 'How each operation refuses').
 use mathlib.Core.Bool.{Bool, true, false, _&&_}
 use mathlib.Core.List.{List, [], _∷_, _++_}
-use Prim.Native.Nat.{ℕ, zero, suc, _+_, _*_, _-_, _/_, _%_}
+use Prim.Native.Nat.{ℕ, suc, _+_, _*_, _-_, _/_, _%_}
 use lib.ListN.{length, getD, replicate}
 use lib.Dec.{leb, eqb}
 use lib.IntN.{ℤ, pos, negsuc, negℤ, natAbs}

@@ -12,7 +12,7 @@ use Rattle.market.specs.CaseFile.{caseSize}
 use Rattle.market.specs.Certificate.{certificateSize}
 use Rattle.market.specs.Refusals.{Finding, AllClear}
 use Rattle.market.specs.Outcome.{caseGrounds}
-use Rattle.market.specs.Numbers.{Field, fieldWidth, caseFields, certificateFields, caseNumbers, certificateNumbers, certificateFileGrounds, readCase, readCaseBuffer, readCertificate, readCertificateBuffer, writeCase, writeCaseBuffer, writeCertificate, writeCertificateBuffer}
+use Rattle.market.specs.Numbers.{fieldWidth, caseFields, certificateFields, caseNumbers, certificateNumbers, certificateFileGrounds, readCase, readCaseBuffer, readCertificate, readCertificateBuffer, writeCase, writeCaseBuffer, writeCertificate, writeCertificateBuffer}
 
 abbrev pub AreBytes : List ℕ → Type 0
 AreBytes b = Each (λ v. v < 256) b

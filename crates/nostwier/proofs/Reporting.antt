@@ -1,15 +1,15 @@
 -- From an answer's enum to what a C host receives.
-use mathlib.Core.Path.{_≡_, refl, sym, _∙_, ap}
+use mathlib.Core.Path.{_≡_, sym, _∙_}
 use mathlib.Core.List.{List}
 use Prim.Native.Nat.{ℕ, _<_}
 use native.Mathlib.Omega.{arith}
-use lib.IntN.{ℤ, pos}
+use lib.IntN.{pos}
 use Rattle.market.specs.declared.Refusal.{Refusal}
 use Rattle.market.specs.declared.Refusal.the-variants as R
 use Rattle.market.specs.declared.Valuation.{Valuation}
 use Rattle.market.specs.declared.Outcome.{Outcome}
 use Rattle.market.specs.declared.Outcome.the-variants.{Accepted, Refused}
-use Rattle.market.specs.Refusals.{numberOf, placeOf, resultOf}
+use Rattle.market.specs.Refusals.{numberOf, placeOf}
 use Rattle.market.specs.Outcome.{outcome}
 use Rattle.outcomes.specs.Checked.{Checked}
 use Rattle.nostwier.specs.Reported.{Reported}

@@ -1,6 +1,6 @@
 // LMPs and zone prices of a certificate whose prices are in range.
 ghost use mathlib.Core.Path.{_≡_};
-ghost use Prim.Native.Nat.{ℕ, _<_};
+ghost use Prim.Native.Nat.{_<_};
 ghost use Rattle.arith.specs.Sums.{sumOf, upto};
 ghost use lib.IntN.{_*ℤ_};
 ghost use Rattle.market.specs.CaseFile.{caseOf};

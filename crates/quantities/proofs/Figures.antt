@@ -10,7 +10,6 @@ use Rattle.market.specs.declared.OfferSteps.{OfferSteps}
 use Rattle.market.specs.declared.Resource.{Resource}
 use Rattle.market.specs.CaseFile.{caseOf}
 use Rattle.market.specs.Records.{recordOf, offerStepsOf}
-use Rattle.market.specs.Outcome.{Valid}
 use Rattle.case_records.specs.Ranged.{Ranged, RangedSteps}
 use Rattle.case_records.proofs.Places.{resources-is}
 use Rattle.case_records.proofs.Ranged.{valid-resource, valid-steps}

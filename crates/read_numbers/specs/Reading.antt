@@ -11,7 +11,6 @@ use Rattle.market.specs.Bytes.{u8At}
 use Rattle.market.specs.Refusals.{Finding, firstOf, transferOf, bufferAfter}
 use Rattle.market.specs.Outcome.{caseGrounds, room}
 use Rattle.market.specs.Numbers.{numbersOf, certificateFileGrounds}
-use Rattle.case_check.specs.declared.Stage.{Stage}
 use Rattle.fields.specs.declared.File.{File}
 use Rattle.fields.specs.declared.File.the-variants.{Case, Certificate}
 use Rattle.fields.specs.Layout.{fieldsOf}

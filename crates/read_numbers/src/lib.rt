@@ -2,6 +2,7 @@
 // (01, 'How each operation refuses': read into numbers).
 use case_check::Stage;
 use fields::File;
+use market::CERTIFICATE_HEAD_SIZE;
 use market::Refusal;
 use market::Transfer;
 ghost use mathlib.Core.Path.{_≡_};
@@ -19,7 +20,7 @@ ghost use Rattle.read_numbers.specs.Reading.{filedCounts, readingGrounds
 fn certificate_stage(q: &[u8]) -> Stage
     ensures { λ r. ⌜ r ≡ stageOf (filedCounts (now (q .entry))) (firstOf (certificateFileGrounds (now (q .entry)))) ⌝ }
 {
-    if !certificate_form::length_right(q) {
+    if !case_check::length_right(q, CERTIFICATE_HEAD_SIZE) {
         return Stage::Refused(Refusal::CertificateLength);
     }
     if !case_check::version_right(q) {

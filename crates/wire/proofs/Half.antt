@@ -4,7 +4,7 @@ use Prim.Native.Nat.{ℕ, _+_, _-_, _%_, _<_, _≤_}
 use native.Mathlib.Decide.{decLt}
 use native.Mathlib.Nat.{mod-eq-of-lt, mod-eq-sub-mod}
 use native.Mathlib.Omega.{arith}
-use lib.IntN.{ℤ, pos, negℤ, _-ℤ_}
+use lib.IntN.{pos, negℤ, _-ℤ_}
 use borrow.Author.Tests.{lt-ltb, le-ltb}
 use Rattle.arith.proofs.Parts.{eq-in, P-neg, N-neg, add-fact}
 use Rattle.market.specs.Bytes.{signed}

@@ -2,7 +2,7 @@
 // reads or writes lie within the slice.
 ghost use mathlib.Core.Path.{_≡_};
 ghost use lib.IntN.{pos};
-ghost use Prim.Native.Nat.{ℕ, _+_, _<_, _≤_};
+ghost use Prim.Native.Nat.{_+_, _<_, _≤_};
 ghost use Rattle.market.specs.Bytes.{u8At, u16At, u32At, signed, i16At, i32At};
 ghost use mathlib.Core.List.{[], _∷_};
 ghost use Rattle.market.specs.Records.{kw, cents, millicents, power, price, perMinute, minutes, thousandths};

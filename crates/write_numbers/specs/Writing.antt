@@ -11,7 +11,6 @@ use Rattle.market.specs.Refusals.{Finding, firstOf, transferOf, bufferAfter}
 use Rattle.market.specs.Outcome.{room}
 use Rattle.market.specs.Numbers.{fieldWidth, countIn, fieldGrounds, fileFor, listGrounds}
 use Rattle.market.specs.declared.Transfer.the-variants as W
-use Rattle.case_check.specs.declared.Stage.{Stage}
 use Rattle.fields.specs.declared.File.{File}
 use Rattle.fields.specs.declared.File.the-variants.{Case, Certificate}
 use Rattle.fields.specs.Layout.{fieldsOf}

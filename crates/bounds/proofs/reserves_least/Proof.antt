@@ -6,7 +6,6 @@ use Rattle.market.specs.UpperBounds.{regulation, contingency, onLineShortTerm, 
 use Rattle.bounds.specs.Sizes.{mostServiceTerm}
 use Rattle.bounds.specs.Terms.{reservesLeast}
 use Rattle.bounds.proofs.Figures.{product-room}
-use borrow.Author.Needs.{needs}
 use Rattle.bounds.proofs.reserves_least.Statement.{statement}
 use Rattle.bounds.proofs.reserves_least.Tie as tie
 

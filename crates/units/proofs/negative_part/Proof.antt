@@ -2,7 +2,7 @@ use mir.Syntax.{w64}
 use native.Mathlib.Omega.{arith}
 use Rattle.arith.proofs.Magnitudes.{fits-abs}
 use mathlib.Core.Path.{sym, ap, _∙_}
-use lib.IntN.{ℤ, pos}
+use lib.IntN.{pos}
 use Rattle.arith.proofs.Order.{min-yes, min-no}
 use Rattle.market.specs.Records.{grains}
 use mir.Facts.{toZ-ofZ}

@@ -1,6 +1,5 @@
 -- `write_numbers::counts_in` meets its contract. Assumes nothing.
 use native.Mathlib.Omega.{arith}
-use borrow.Author.Needs.{needs}
 use Rattle.write_numbers.proofs.Stages.{counts-from}
 use Rattle.write_numbers.proofs.counts_in.Statement.{statement}
 use Rattle.write_numbers.proofs.counts_in.Tie as tie
