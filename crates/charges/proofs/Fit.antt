@@ -20,7 +20,7 @@ use Rattle.case_records.specs.Ranged.{RangedSteps, RangedCurve, offerStep, curv
 use Rattle.units.specs.Room.{SumRoom}
 use Rattle.bounds.specs.Sizes.{Figure}
 use Rattle.bounds.proofs.Figures.{product-room}
-use Rattle.costs.specs.Steps.{StepRanges, widthsOf}
+use Rattle.costs.specs.Steps.{StepRanges}
 use Rattle.limits.specs.Widths.{widthsOf}
 use Rattle.costs.proofs.Filling.{offer-ranges, curve-ranges}
 use Rattle.charges.specs.Sizes.{ChargeRoom, StepRoom}

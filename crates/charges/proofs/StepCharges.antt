@@ -13,7 +13,8 @@ use Rattle.market.specs.Cost.{filled}
 use Rattle.market.specs.Records.{power}
 use Rattle.case_records.specs.Ranged.{UpTo}
 use Rattle.costs.specs.declared.Filled.{Filled}
-use Rattle.costs.specs.Steps.{mostInSteps, fillingOf, widthsOf, StepRanges}
+use Rattle.limits.specs.Widths.{widthsOf}
+use Rattle.costs.specs.Steps.{mostInSteps, fillingOf, StepRanges}
 use Rattle.costs.proofs.Filling.{before-steps, next-step, left-room, width-room}
 use Rattle.charges.proofs.Families.{write-next}
 
