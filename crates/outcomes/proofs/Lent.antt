@@ -1,6 +1,6 @@
 -- Prices and charges for a lent buffer: what is answered, and what the buffer holds, where a ground of 1 to 14 holds, where 15
 -- does, and where none does.
-use mathlib.Core.Path.{_≡_, _∙_}
+use mathlib.Core.Path.{_≡_, _∙_, sym}
 use mathlib.Core.List.{List, [], _∷_, _++_}
 use Prim.Native.Nat.{ℕ, _+_, _*_, _<_, _≤_}
 use native.Mathlib.Omega.{arith}
@@ -20,6 +20,7 @@ use Rattle.market.specs.Prices.{priceList, priceCount}
 use Rattle.market.specs.Outcome.{grounds, room, priceGrounds, priceAnswer, priceBuffer, chargeGrounds, chargeAnswer, chargeBuffer, listedCharges}
 use Rattle.market.proofs.LentBuffer.{refused-before, too-short, long-enough}
 use Rattle.market.proofs.Lengths.{charge-count, price-count}
+use Rattle.market.proofs.SizesInWords.{sizes-in-words}
 use Rattle.case_check.specs.declared.Stage.the-variants.{Refused}
 use Rattle.case_check.specs.Stages.{stageOf}
 use Rattle.case_check.proofs.Passing.{refused-holds}
@@ -45,7 +46,7 @@ module _ (b q : List ℕ) (n : Counts) (h : AcceptedWith b q n) where
   prices-needed = rw (h .counts)
 
   charges-needed : 21 + 4 * n .zones + n .flowgates + 19 * n .resources ≡ chargeCount (caseOf b)
-  charges-needed = rw (h .counts)
+  charges-needed = rw (h .counts) (sym (sizes-in-words .charge-count (caseOf b)))
 
 module _ (b q : List ℕ) (old : List ℤ) where
   abbrev Prices : Delivery → List ℤ → Type 0
