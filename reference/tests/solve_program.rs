@@ -203,9 +203,9 @@ fn wrong_use_is_told_in_a_line() {
         ("bad.case -o k.cert", 1, "'bad.case' is no valid case: refused 1"),
         ("k.case -o k.cert --keep k.case", 2, &format!("cannot make 'k.case': {taken}")),
         // The search path holds no solver.
-        ("k.case -o k.cert", 1, &unstarted("glpsol", "glpk-utils")),
-        ("k.case -o k.cert --solver clp", 1, &unstarted("clp", "coinor-clp")),
-        ("k.case -o k.cert --solver cbc", 1, &unstarted("cbc", "coinor-cbc")),
+        ("k.case -o k.cert", 2, &unstarted("glpsol", "glpk-utils")),
+        ("k.case -o k.cert --solver clp", 2, &unstarted("clp", "coinor-clp")),
+        ("k.case -o k.cert --solver cbc", 2, &unstarted("cbc", "coinor-cbc")),
     ] {
         let arguments: Vec<&str> = options.split_whitespace().collect();
         assert_eq!(told(&directory, &arguments, status), line, "{options}");
@@ -253,7 +253,7 @@ fn odd_answers_of_a_solver_are_told_in_a_line() {
     {
         let directory = with_stand_ins(&format!("solve-odd-{index}"), script);
         for solver in ["glpsol", "clp", "cbc"] {
-            let told = told(&directory, &["k.case", "-o", "k.cert", "--solver", solver], 1);
+            let told = told(&directory, &["k.case", "-o", "k.cert", "--solver", solver], 2);
             assert_eq!(told, line.replace("SOLVER", solver), "{script}");
         }
         assert!(!directory.join("k.cert").exists());
@@ -268,6 +268,151 @@ fn an_answer_too_far_from_any_schedule_is_told() {
     let line = told(&directory, &["k.case", "-o", "k.cert", "--solver", "clp"], 1);
     let wanted = "no whole-kW schedule was found near the solver's; row 1 stays broken";
     assert_eq!(line, wanted);
+}
+
+/// The program's text on standard output and error, when it goes well.
+#[cfg(unix)]
+fn solved(directory: &Path, solver: &str) -> (String, String) {
+    let output = run(directory, &["k.case", "-o", "k.cert", "--solver", solver, "--seconds", "7"]);
+    let [out, told] =
+        [output.stdout, output.stderr].map(|text| String::from_utf8(text).expect("text"));
+    assert_eq!(output.status.code(), Some(0), "{told}");
+    (out, told)
+}
+
+#[cfg(unix)]
+const K_TOTALS: &str = "cost 140000000000\nbound 140000000000\ngap 0\n";
+
+/// Answers for K as each solver writes them: the best with fractions, and in
+/// whole numbers what `whole` says.
+#[cfg(unix)]
+fn answers_for_k(whole: &str) -> String {
+    format!(
+        "list() {{ n=$1; while [ $n -le $2 ]; do echo $3 $n $4; n=$((n + 1)); done; }}
+        glpsol_relaxed() {{
+            echo s bas 14 30 f f 0; echo i 1 s 60000 3000000; list 2 14 i 'b 0 0'
+            echo j 1 u 40000 -1000000; echo j 2 b 20000 0; list 3 30 j 'l 0 0'
+        }}
+        found() {{ echo s mip 14 30 $1 0; echo j 1 40000; echo j 2 20000; list 3 30 j 0; }}
+        coin() {{ echo $1; echo 0 R1 60000 3000000; echo 0 C1 40000 0; echo 1 C2 20000 0; }}
+        case $0.$answer in
+            *glpsol.relaxed.out) glpsol_relaxed;;
+            *relaxed.out) coin Optimal;;
+            {whole}
+        esac > $answer"
+    )
+}
+
+#[cfg(unix)]
+#[test]
+fn a_solver_that_stops_at_its_time_limit_is_told() {
+    for (index, (whole, wanted)) in [
+        ("*glpsol*) found o;; *) coin Optimal;;", None),
+        (
+            "*glpsol*) found f;; *) coin 'Stopped on time';;",
+            Some("before it was sure of the cheapest schedule in whole kW"),
+        ),
+    ]
+    .into_iter()
+    .enumerate()
+    {
+        let directory = with_stand_ins(&format!("solve-time-{index}"), &answers_for_k(whole));
+        for solver in ["glpsol", "cbc"] {
+            let (out, told) = solved(&directory, solver);
+            assert_eq!(out, K_TOTALS);
+            let line = |found| {
+                let limit = format!("{solver} stopped at its time limit (7 s)");
+                format!("nostwier-solve: {limit} {found}")
+            };
+            assert!(told.starts_with(&wanted.map_or(String::new(), line)), "{solver}: {told}");
+            assert_eq!(told.lines().count(), usize::from(wanted.is_some()), "{told}");
+        }
+        // It has no whole numbers to be stopped at.
+        assert_eq!(solved(&directory, "clp"), (K_TOTALS.to_string(), String::new()));
+    }
+}
+
+#[cfg(unix)]
+#[test]
+fn a_solver_that_stops_with_nothing_leaves_it_to_the_rounding() {
+    let directory =
+        with_stand_ins("solve-time-nothing", &answers_for_k("*) echo s mip 14 30 u 0;;"));
+    let (out, told) = solved(&directory, "glpsol");
+    assert_eq!(out, K_TOTALS);
+    assert!(
+        told.contains("(7 s) before it had found a schedule in whole kW; --seconds N"),
+        "{told}"
+    );
+}
+
+#[cfg(unix)]
+#[test]
+fn a_linear_programme_that_is_stopped_leaves_no_certificate() {
+    let directory = with_stand_ins("solve-time-linear", "echo 'Stopped on time' > $answer");
+    let line =
+        told(&directory, &["k.case", "-o", "k.cert", "--solver", "cbc", "--seconds", "3"], 1);
+    assert!(line.starts_with("cbc stopped at its time limit (3 s) before it had solved"), "{line}");
+    assert!(!directory.join("k.cert").exists());
+}
+
+/// K with a second resource, dearer, that may give 0 to 25,000 kW.
+#[cfg(unix)]
+fn k_of_two() -> Vec<u8> {
+    let mut pair = worked::pair();
+    let mut second = pair.case.resources[0].clone();
+    second.economic.minimum = 0;
+    second.output = 500;
+    second.initial = 10_000;
+    second.steps[0] = Step { width: 100_000, price: 4_000 };
+    second.steps[1] = Step { width: 0, price: 0 };
+    pair.case.resources.push(second);
+    pair.case.counts.resources = 2;
+    pair.case_file()
+}
+
+#[cfg(unix)]
+#[test]
+fn the_better_of_the_solvers_schedule_and_the_rounded_one_is_kept() {
+    // The cheaper resource gives 60,000 kW at the best, and 40 kW less in a
+    // worse answer; the best stands in one answer, then in the other.
+    let best = "echo Optimal; echo 0 R1 0 3000000; echo 0 C1 40000 0; echo 1 C2 20000 0";
+    let worse =
+        "echo Optimal; echo 0 R1 0 3000000; echo 0 C1 40000 0; echo 1 C2 19960 0; echo 2 C15 40 0";
+    for (index, (relaxed, whole)) in
+        [(best, worse), (worse, best), (best, best), (worse, worse)].into_iter().enumerate()
+    {
+        let script =
+            format!("case $answer in relaxed.out) {relaxed};; *) {whole};; esac > $answer");
+        let directory = with_stand_ins(&format!("solve-better-{index}"), &script);
+        std::fs::write(directory.join("k.case"), k_of_two()).expect("written");
+        let (out, _) = solved(&directory, "cbc");
+        // 40 kW at 1,000 cents more.
+        let wanted = if index < 3 {
+            K_TOTALS
+        } else {
+            "cost 140040000000\nbound 140000000000\ngap 40000000\n"
+        };
+        assert_eq!(out, wanted, "{index}");
+    }
+}
+
+#[cfg(unix)]
+#[test]
+fn a_case_without_schedule_is_told_with_what_is_not_on_line() {
+    let directory = with_stand_ins("solve-off-line", "echo 'Infeasible' > $answer");
+    let mut pair = worked::pair();
+    for (output, wanted) in [
+        (499, "can give 0 to 0 kW in this interval. Not on-line: 1 (docs/MODEL.md says"),
+        (500, "can give 35000 to 65000 kW in this interval. Not on-line: none (docs/MODEL.md says"),
+    ] {
+        pair.case.resources[0].output = output;
+        std::fs::write(directory.join("k.case"), pair.case_file()).expect("written");
+        let line = told(&directory, &["k.case", "-o", "k.cert", "--solver", "clp"], 1);
+        assert!(line.starts_with(
+            "clp finds no schedule that keeps every row of the case. Demand is 60000 kW;"
+        ));
+        assert!(line.contains(wanted), "{line}");
+    }
 }
 
 #[test]

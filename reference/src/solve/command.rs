@@ -2,8 +2,9 @@
 
 use crate::check_case;
 use crate::generate::Pair;
+use crate::solve::progress::Progress;
 use crate::solve::solve;
-use crate::solve::solver::{Call, Solver};
+use crate::solve::solver::{Call, Solver, Unsolved};
 use std::ffi::OsString;
 use std::io::Write;
 use std::path::PathBuf;
@@ -14,8 +15,10 @@ Usage: nostwier-solve CASE -o CERT [--solver glpsol|clp|cbc] [--keep DIR]
                       [--seconds N]
 
 Writes the linear programme of a case, has a solver solve it, rounds schedule
-and prices to whole numbers, and writes the certificate. Prints cost, bound and
-gap, in grains; 1200000000 grains are a dollar of the interval.
+and prices to whole numbers, and writes the best certificate that it finds.
+Prints cost, bound and gap, in grains; 1200000000 grains are a dollar of the
+interval. On standard error it says so if the solver stopped at its time limit;
+where that is a terminal, it also shows what is being waited for.
   -o CERT        the certificate to write
   --solver NAME  the solver to call (glpsol unless said otherwise)
   --keep DIR     leave programmes and answers in DIR: relaxed.mps with fractions
@@ -24,8 +27,9 @@ gap, in grains; 1200000000 grains are a dollar of the interval.
                  flowgate prices held at whole cents
   --seconds N    how long the solver may look for whole numbers (20)
 
-Exit status 1 if the case is refused or no certificate was found, 2 if the
-program was used wrongly or a file or a solver is missing.
+Exit status 0 if a certificate was written, 1 if the case is refused or no
+certificate was found, 2 if the program was used wrongly, a file cannot be read
+or written, or the solver is missing or fails.
 ";
 
 struct Order {
@@ -48,11 +52,15 @@ pub fn run(arguments: Vec<OsString>) -> ExitCode {
     match answer(arguments).and_then(print) {
         Ok(()) => ExitCode::SUCCESS,
         Err(Trouble(status, line)) => {
-            // Nothing is left to do if standard error is gone as well.
-            let _ = writeln!(std::io::stderr(), "nostwier-solve: {line}");
+            tell(&line);
             ExitCode::from(status)
         }
     }
+}
+
+fn tell(line: &str) {
+    // Nothing is left to do if standard error is gone as well.
+    let _ = writeln!(std::io::stderr(), "nostwier-solve: {line}");
 }
 
 fn print(text: String) -> Result<(), Trouble> {
@@ -73,14 +81,24 @@ fn answer(arguments: Vec<OsString>) -> Result<String, Trouble> {
         Trouble(1, format!("'{}' is no valid case: {refusal}", order.case.display()))
     })?;
     let scratch = Scratch::new(order.keep.clone())?;
-    let call =
-        Call { solver: order.solver, directory: scratch.path.clone(), seconds: order.seconds };
-    let solved = solve(&case, &call).map_err(|line| Trouble(1, line))?;
+    let call = Call {
+        solver: order.solver,
+        directory: scratch.path.clone(),
+        seconds: order.seconds,
+        progress: Progress::on_a_terminal(),
+    };
+    let solved = solve(&case, &call).map_err(|why| match why {
+        Unsolved::NoSchedule(line) | Unsolved::NotFound(line) => Trouble(1, line),
+        Unsolved::Fault(line) => Trouble(2, line),
+    })?;
     let totals = solved.totals;
     let pair = Pair { case, certificate: solved.certificate };
     std::fs::write(&order.certificate, pair.certificate_file()).or_else(|error| {
         misuse(format!("cannot write '{}': {error}", order.certificate.display()))
     })?;
+    for remark in solved.remarks {
+        tell(&remark);
+    }
     Ok(format!("cost {}\nbound {}\ngap {}\n", totals.cost, totals.bound, totals.gap))
 }
 

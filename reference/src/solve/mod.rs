@@ -4,6 +4,7 @@
 pub mod command;
 pub mod mps;
 pub mod programme;
+pub mod progress;
 pub mod rounding;
 pub mod solver;
 
@@ -12,48 +13,103 @@ use crate::case::Case;
 use crate::certificate::{accept, Certificate};
 use crate::generate::Pair;
 use crate::operations::Totals;
+use crate::standing::standings;
 use programme::Programme;
-use solver::{Call, Solution};
+use solver::{Call, Solution, Unsolved};
 
 /// A certificate that the check accepts, with its totals.
 #[derive(Clone, Debug)]
 pub struct Solved {
     pub certificate: Certificate,
     pub totals: Totals,
+    /// What the user should know of the way here: a line each.
+    pub remarks: Vec<String>,
 }
 
-/// Solves a valid case; the error is one line that says why it could not.
-pub fn solve(case: &Case, call: &Call) -> Result<Solved, String> {
+/// Solves a valid case.
+pub fn solve(case: &Case, call: &Call) -> Result<Solved, Unsolved> {
     let programme = Programme::of_case(case);
-    let relaxed = call.linear(&programme, "relaxed")?;
-    let amounts = whole_schedule(case, &programme, &relaxed, call)?;
-    let mut best = judged(case, &amounts, programme.whole_prices(&relaxed.duals))?;
-    for prices in better_prices(&programme, &relaxed, call)? {
-        let other = judged(case, &amounts, prices)?;
-        if other.totals.gap < best.totals.gap {
-            best = other;
+    let relaxed = call.linear(&programme, "relaxed").map_err(|why| match why {
+        Unsolved::NoSchedule(line) => Unsolved::NoSchedule(line + &why_none(case)),
+        other => other,
+    })?;
+    let (schedules, remarks) = whole_schedules(case, &programme, &relaxed, call)?;
+    let mut prices = vec![programme.whole_prices(&relaxed.duals)];
+    prices.extend(better_prices(&programme, &relaxed, call)?);
+    let mut best: Option<Solved> = None;
+    for amounts in &schedules {
+        for row_prices in &prices {
+            let other = judged(case, amounts, row_prices.clone())?;
+            if best.as_ref().is_none_or(|best| other.totals.gap < best.totals.gap) {
+                best = Some(other);
+            }
         }
     }
-    Ok(best)
+    match best {
+        Some(best) => Ok(Solved { remarks, ..best }),
+        None => Err(Unsolved::NotFound("there is no schedule to judge".to_string())),
+    }
 }
 
-/// Whole kW: the solver's own if it has a way to whole numbers, else those
-/// found near its solution.
-fn whole_schedule(
+/// Whole kW that keep every row: near what the solver finds in whole numbers,
+/// if it has a way to them, and near its solution with fractions. Neither is
+/// always the cheaper one: a solver may be stopped before it has the best, and
+/// mending a rounded schedule goes by rows and not by cost.
+fn whole_schedules(
     case: &Case,
     programme: &Programme,
     relaxed: &Solution,
     call: &Call,
-) -> Result<Vec<i64>, String> {
+) -> Result<(Vec<Vec<i64>>, Vec<String>), Unsolved> {
     let near = |solution: &Solution| {
         let rounded = programme.rounded_amounts(&solution.values);
-        rounding::repaired(programme, rounded)
+        let amounts = rounding::repaired(programme, rounded)?;
+        Ok(rounding::cleared_to_the_full(case, programme, amounts))
     };
-    let amounts = match call.whole(programme, "whole")? {
-        Some(whole) => near(&whole).or_else(|_| near(relaxed)),
-        None => near(relaxed),
-    }?;
-    Ok(rounding::cleared_to_the_full(case, programme, amounts))
+    let whole = call.whole(programme, "whole")?;
+    let of_whole: Option<Result<Vec<i64>, String>> = whole.solution.as_ref().map(near);
+    let of_relaxed = call.progress.during("rounding", None, || near(relaxed));
+    let remarks = if whole.stopped {
+        let found = if whole.solution.is_some() {
+            "before it was sure of the cheapest schedule in whole kW"
+        } else {
+            "before it had found a schedule in whole kW"
+        };
+        vec![format!("{} {found}; --seconds N gives it more", call.stopped())]
+    } else {
+        Vec::new()
+    };
+    let (found, missed): (Vec<_>, Vec<_>) =
+        of_whole.into_iter().chain([of_relaxed]).partition(Result::is_ok);
+    let schedules: Vec<Vec<i64>> = found.into_iter().flatten().collect();
+    if !schedules.is_empty() {
+        return Ok((schedules, remarks));
+    }
+    let line = missed.into_iter().find_map(Result::err).unwrap_or_default();
+    Err(Unsolved::NotFound(remarks.into_iter().chain([line]).collect::<Vec<_>>().join("; ")))
+}
+
+/// What most often keeps a case from having a schedule: resources that are not
+/// on-line, and a demand beyond what the others can give within the interval.
+fn why_none(case: &Case) -> String {
+    let standings = standings(case);
+    let online: Vec<_> = standings.iter().filter(|standing| standing.online).collect();
+    let most: i64 = online
+        .iter()
+        .map(|standing| standing.maximum.min(standing.high).min(standing.bounds[0]).max(0))
+        .sum();
+    let least: i64 = online.iter().map(|standing| standing.minimum.max(standing.low)).sum();
+    let off: Vec<String> = (1..)
+        .zip(&standings)
+        .filter(|(_, standing)| !standing.online)
+        .map(|(number, _)| number.to_string())
+        .collect();
+    let off = if off.is_empty() { "none".to_string() } else { off.join(", ") };
+    format!(
+        ". Demand is {} kW; the resources that are on-line can give {least} to {most} kW in this \
+         interval. Not on-line: {off} (docs/MODEL.md says when a resource is)",
+        case.demand
+    )
 }
 
 /// Prices worth trying where duals do not go over into prices as they are:
@@ -63,7 +119,7 @@ fn better_prices(
     programme: &Programme,
     relaxed: &Solution,
     call: &Call,
-) -> Result<Vec<Vec<i64>>, String> {
+) -> Result<Vec<Vec<i64>>, Unsolved> {
     let prices = programme.whole_prices(&relaxed.duals);
     let far = |row: usize| (relaxed.duals[row] - prices[row] as f64).abs();
     let all_in_range = (0..prices.len()).all(|row| far(row) <= 0.5);
@@ -82,12 +138,14 @@ fn better_prices(
 }
 
 /// The certificate of a schedule and prices, as the check judges it.
-fn judged(case: &Case, amounts: &[i64], row_prices: Vec<i64>) -> Result<Solved, String> {
+fn judged(case: &Case, amounts: &[i64], row_prices: Vec<i64>) -> Result<Solved, Unsolved> {
     let certificate = Certificate { counts: case.counts, amounts: amounts.to_vec(), row_prices };
     let pair = Pair { case: case.clone(), certificate };
     let accepted = accept(&pair.case_file(), &pair.certificate_file())
-        .map_err(|refusal| format!("the certificate would be refused: {refusal}"))?;
-    let accounts = accounts(&accepted).map_err(|failure| failure.to_string())?;
+        .map_err(|refusal| format!("the certificate would be refused: {refusal}"))
+        .map_err(Unsolved::NotFound)?;
+    let accounts =
+        accounts(&accepted).map_err(|failure| Unsolved::NotFound(failure.to_string()))?;
     let totals = Totals { cost: accounts.cost, bound: accounts.bound, gap: accounts.gap };
-    Ok(Solved { certificate: pair.certificate, totals })
+    Ok(Solved { certificate: pair.certificate, totals, remarks: Vec::new() })
 }

@@ -2,6 +2,7 @@
 
 use crate::solve::mps;
 use crate::solve::programme::Programme;
+use crate::solve::progress::Progress;
 use std::path::PathBuf;
 use std::process::{Command, Stdio};
 
@@ -67,17 +68,39 @@ pub struct Solution {
     pub duals: Vec<f64>,
 }
 
-/// A solver, where its files go and how long it may look for whole numbers.
+/// Why there is no certificate: one line of text.
+#[derive(Clone, Debug, PartialEq, Eq)]
+pub enum Unsolved {
+    /// No schedule keeps every row.
+    NoSchedule(String),
+    /// There may be one, but none was found.
+    NotFound(String),
+    /// A solver or a file is missing, or is not as it should be.
+    Fault(String),
+}
+
+/// What came of the search for whole numbers.
+#[derive(Clone, Debug, PartialEq)]
+pub struct Whole {
+    /// None if the solver has no way to whole numbers, or found none.
+    pub solution: Option<Solution>,
+    /// Whether the time was over before the search was.
+    pub stopped: bool,
+}
+
+/// A solver, where its files go, how long it may look for whole numbers, and
+/// who is told that it is at work.
 #[derive(Clone, Debug)]
 pub struct Call {
     pub solver: Solver,
     pub directory: PathBuf,
     pub seconds: u32,
+    pub progress: Progress,
 }
 
 impl Call {
     /// Solves the programme with fractions allowed.
-    pub fn linear(&self, programme: &Programme, name: &str) -> Result<Solution, String> {
+    pub fn linear(&self, programme: &Programme, name: &str) -> Result<Solution, Unsolved> {
         let answer = self.run(programme, name, false)?;
         let read = match self.solver {
             Solver::Glpsol => read_glpsol_linear(&answer, programme),
@@ -85,47 +108,64 @@ impl Call {
         };
         match read {
             Answer::Solved(solution) => Ok(solution),
-            Answer::NoSchedule => Err(format!(
+            Answer::Stopped(_) => Err(Unsolved::NotFound(format!(
+                "{} before it had solved {name}.mps, where fractions are allowed; --seconds N gives \
+                 it more",
+                self.stopped()
+            ))),
+            Answer::NoSchedule => Err(Unsolved::NoSchedule(format!(
                 "{} finds no schedule that keeps every row of the case",
                 self.solver.name()
-            )),
-            Answer::Unreadable => Err(format!("cannot read the answer of {}", self.solver.name())),
+            ))),
+            Answer::Unreadable => {
+                Err(fault(format!("cannot read the answer of {}", self.solver.name())))
+            }
         }
     }
 
-    /// Solves it in whole numbers; None if the solver has no way to them, or
-    /// found none in time.
-    pub fn whole(&self, programme: &Programme, name: &str) -> Result<Option<Solution>, String> {
+    /// Solves it in whole numbers.
+    pub fn whole(&self, programme: &Programme, name: &str) -> Result<Whole, Unsolved> {
         if self.solver == Solver::Clp {
-            return Ok(None);
+            return Ok(Whole { solution: None, stopped: false });
         }
         let answer = self.run(programme, name, true)?;
         let read = match self.solver {
             Solver::Glpsol => read_glpsol_whole(&answer, programme),
             Solver::Clp | Solver::Cbc => read_coin(&answer, programme),
         };
-        match read {
-            Answer::Solved(solution) => Ok(Some(solution)),
-            Answer::NoSchedule | Answer::Unreadable => Ok(None),
-        }
+        Ok(match read {
+            Answer::Solved(solution) => Whole { solution: Some(solution), stopped: false },
+            Answer::Stopped(solution) => Whole { solution, stopped: true },
+            Answer::NoSchedule | Answer::Unreadable => Whole { solution: None, stopped: false },
+        })
     }
 
-    fn run(&self, programme: &Programme, name: &str, whole: bool) -> Result<String, String> {
+    /// That the solver stopped at its time limit, in words.
+    pub fn stopped(&self) -> String {
+        format!("{} stopped at its time limit ({} s)", self.solver.name(), self.seconds)
+    }
+
+    fn run(&self, programme: &Programme, name: &str, whole: bool) -> Result<String, Unsolved> {
         let solver = self.solver.name();
         let file = self.directory.join(format!("{name}.mps"));
         std::fs::write(&file, mps::text(programme, whole))
-            .map_err(|error| format!("cannot write '{}': {error}", file.display()))?;
-        let output = Command::new(solver)
-            .args(self.solver.arguments(name, whole, self.seconds))
-            .current_dir(&self.directory)
-            .stdin(Stdio::null())
-            .output()
-            .map_err(|error| self.cannot_start(&error))?;
+            .map_err(|error| fault(format!("cannot write '{}': {error}", file.display())))?;
+        let most = whole.then_some(self.seconds);
+        let output = self
+            .progress
+            .during(&format!("{solver} solves {name}.mps"), most, || {
+                Command::new(solver)
+                    .args(self.solver.arguments(name, whole, self.seconds))
+                    .current_dir(&self.directory)
+                    .stdin(Stdio::null())
+                    .output()
+            })
+            .map_err(|error| fault(self.cannot_start(&error)))?;
         if !output.status.success() {
-            return Err(format!("{solver} failed ({})", output.status));
+            return Err(fault(format!("{solver} failed ({})", output.status)));
         }
         std::fs::read_to_string(self.directory.join(format!("{name}.out")))
-            .map_err(|error| format!("{solver} left no answer: {error}"))
+            .map_err(|error| fault(format!("{solver} left no answer: {error}")))
     }
 
     fn cannot_start(&self, error: &std::io::Error) -> String {
@@ -134,9 +174,15 @@ impl Call {
     }
 }
 
+fn fault(line: String) -> Unsolved {
+    Unsolved::Fault(line)
+}
+
 #[derive(Clone, Debug, PartialEq)]
 enum Answer {
     Solved(Solution),
+    /// At the time limit, with the best found by then.
+    Stopped(Option<Solution>),
     NoSchedule,
     Unreadable,
 }
@@ -172,20 +218,24 @@ fn read_glpsol_linear(text: &str, programme: &Programme) -> Answer {
     solution(last_fields(&without_duals, "j"), last_fields(text, "i"), programme)
 }
 
-/// `s mip ROWS COLUMNS o COST`, `j COLUMN VALUE`. There are no duals.
+/// `s mip ROWS COLUMNS STATUS COST`, `j COLUMN VALUE`. There are no duals. The
+/// status is o if the best was found, f if the search was stopped with something
+/// found, u if it was stopped with nothing.
 fn read_glpsol_whole(text: &str, programme: &Programme) -> Answer {
     let status = text.lines().find(|line| line.starts_with("s mip "));
     match status.and_then(|line| line.split_whitespace().nth(4)) {
-        Some("o" | "f") => {
+        Some(letter @ ("o" | "f")) => {
             let no_duals = vec![0.0; programme.rows.len()];
-            solution(last_fields(text, "j"), Some(no_duals), programme)
+            let read = solution(last_fields(text, "j"), Some(no_duals), programme);
+            ended(read, letter == "f")
         }
+        Some("u") => Answer::Stopped(None),
         Some(_) => Answer::NoSchedule,
         None => Answer::Unreadable,
     }
 }
 
-/// A line that begins with `Optimal`, then rows and columns, each
+/// A line that begins with `Optimal` or `Stopped`, then rows and columns, each
 /// `INDEX NAME VALUE DUAL`.
 fn read_coin(text: &str, programme: &Programme) -> Answer {
     let Some(status) = text.lines().next() else {
@@ -194,7 +244,8 @@ fn read_coin(text: &str, programme: &Programme) -> Answer {
     if status.starts_with("Infeasible") || status.starts_with("Integer infeasible") {
         return Answer::NoSchedule;
     }
-    if !status.starts_with("Optimal") && !status.starts_with("Stopped") {
+    let stopped = status.starts_with("Stopped");
+    if !status.starts_with("Optimal") && !stopped {
         return Answer::Unreadable;
     }
     let mut values = vec![0.0; programme.columns.len()];
@@ -220,7 +271,15 @@ fn read_coin(text: &str, programme: &Programme) -> Answer {
             None => return Answer::Unreadable,
         }
     }
-    solution(Some(values), Some(duals), programme)
+    ended(solution(Some(values), Some(duals), programme), stopped)
+}
+
+/// What was read, of a solver that was stopped or was not.
+fn ended(read: Answer, stopped: bool) -> Answer {
+    match read {
+        Answer::Solved(solution) if stopped => Answer::Stopped(Some(solution)),
+        other => other,
+    }
 }
 
 /// A solution of the right size, with every number finite.

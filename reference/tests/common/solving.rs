@@ -7,6 +7,7 @@ use nostwier_reference::layout::Counts;
 use nostwier_reference::program::whole_text;
 use nostwier_reference::random::Random;
 use nostwier_reference::solve::programme::Programme;
+use nostwier_reference::solve::progress::Progress;
 use nostwier_reference::solve::solve;
 use nostwier_reference::solve::solver::{Call, Solver};
 use nostwier_reference::worked;
@@ -25,7 +26,7 @@ fn scratch(name: &str) -> PathBuf {
 
 fn call(solver: Solver, name: &str) -> Call {
     let directory = scratch(&format!("{name}-{}", solver.name()));
-    Call { solver, directory, seconds: 5 }
+    Call { solver, directory, seconds: 5, progress: Progress::Silent }
 }
 
 fn run(directory: &PathBuf, arguments: &[&str]) -> Output {
@@ -62,6 +63,8 @@ pub fn tells_of_no_schedule(solver: Solver) {
     assert_eq!(output.status.code(), Some(1));
     let line = String::from_utf8(output.stderr).expect("text");
     assert!(line.contains("no schedule that keeps every row"), "{line}");
+    assert!(line
+        .contains("Demand is 65001 kW; the resources that are on-line can give 35000 to 65000 kW"));
     assert_eq!(line.lines().count(), 1);
     assert!(!directory.join("k.cert").exists());
 }
