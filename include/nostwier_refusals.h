@@ -82,18 +82,20 @@ static inline const char *nostwier_refusal_advice(uint32_t refusal)
     case NOSTWIER_CERTIFICATE_SIZE:
         return "look for an entry that is missing or too many: 44 bytes, 16 a zone, 4 a flowgate, 40 a resource";
     case NOSTWIER_PRICE_RANGE:
-        return "turn the signs of the solver's duals as reference/README.md says, and clip them: row 1 within +-400,000,000, "
-               "flowgates 0 to 400,000 cents, others 0 to 400,000,000 thousandths of a cent";
+        return "write the price of every row but row 1 as 0 or more (where a solver gives a negative dual, reference/README.md "
+               "says which sign it counts), and set one beyond its range to the range's end: row 1 within +-400,000,000, flowgates "
+               "0 to 400,000 cents, others 0 to 400,000,000 thousandths of a cent";
     case NOSTWIER_QUANTITY_BOUND:
         return "compare the quantity with its bound in the case; round it down, or look whether the resource is on-line and "
                "its flag is set";
     case NOSTWIER_ROW_BROKEN:
-        return "round the schedule so that the row is met in whole kW, or let the solver look for whole numbers";
+        return "change the schedule so that the row is met in whole kW: round it another way, or let the solver look for whole "
+               "numbers";
     case NOSTWIER_BUFFER_SHORT:
         return "lend a buffer as long as the sizes in nostwier.h say";
     case NOSTWIER_NUMBERS:
-        return "list every field but length and version, in the file's order; look for a negative number or one of too many "
-               "digits";
+        return "look for a negative number or one of too many digits; in a list give every field but length and version, in the "
+               "file's order";
     case NOSTWIER_INPUT_LONG:
         return "give the program one case and one certificate, nothing else";
     default:

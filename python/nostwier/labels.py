@@ -2,6 +2,8 @@
 
 from typing import List, NamedTuple
 
+from .library import Counts
+
 CURVES = ["operating", "regulating-plus-spinning", "regulating", "short-term"]
 SERVICES = ["energy e", "regulating g", "contingency c", "on-line short-term s", "off-line short-term o"]
 RESOURCE_ROWS = ["e+g+c <= MAX", "e+s <= MAX", "e-g >= MIN", "e <= HI", "e >= LO"]
@@ -15,14 +17,14 @@ class Names(NamedTuple):
     resources: List[str] = []
     flowgates: List[str] = []
 
-    def of(self, what, number):
+    def of(self, what: str, number: int) -> str:
         """'zone 2', or 'zone 2 (North)'."""
         names = getattr(self, what + "s")
         name = names[number - 1] if number <= len(names) else ""
         return f"{what} {number} ({name})" if name else f"{what} {number}"
 
 
-def row_labels(counts, names=Names()):
+def row_labels(counts: Counts, names: Names = Names()) -> List[str]:
     """Each row in words, row 1 first."""
     labels = ["energy equals demand"] + [f"market-wide {curve} reserve" for curve in CURVES]
     labels += [f"{names.of('zone', z)}: {curve} reserve" for z in _from_1(counts.zones) for curve in CURVES]
@@ -31,13 +33,13 @@ def row_labels(counts, names=Names()):
     return labels
 
 
-def quantity_labels(counts, names=Names()):
+def quantity_labels(counts: Counts, names: Names = Names()) -> List[str]:
     """Each quantity of a certificate in words, place 1 first."""
     labels = [f"cleared {curve} reserve" for curve in CURVES]
     return labels + [f"{names.of('resource', r)}: {service}" for r in _from_1(counts.resources) for service in SERVICES]
 
 
-def charge_labels(counts, names=Names()):
+def charge_labels(counts: Counts, names: Names = Names()) -> List[str]:
     """What each charge belongs to, in the order of the charges."""
     labels = [f"row {number}, {label}" for number, label in enumerate(row_labels(counts, names), 1)]
     parts = [f"energy step {step}" for step in _from_1(ENERGY_STEPS)] + SERVICES[1:]
@@ -53,7 +55,7 @@ class Charge(NamedTuple):
     grains: int
 
 
-def listed_charges(counts, charges, names=Names()):
+def listed_charges(counts: Counts, charges: List[int], names: Names = Names()) -> List[Charge]:
     """Charges with what they belong to, largest first, equal ones in their order."""
     labels = charge_labels(counts, names)
     assert len(labels) == len(charges), "as many charges as the counts say"

@@ -26,8 +26,10 @@ class Counts(NamedTuple):
     flowgates: int
 
     @classmethod
-    def of_file(cls, file):
-        """The counts that a file announces, its bytes 5 to 7."""
+    def of_file(cls, file: bytes) -> "Counts":
+        """The counts that a file announces, its bytes 5 to 7; ValueError if it is shorter."""
+        if len(file) < 8:
+            raise ValueError("a file of under 8 bytes announces no counts")
         return cls(*file[5:8])
 
     @property

@@ -6,10 +6,13 @@ In dictionaries and JSON a field has the name that it has here. Kind, status and
 
 import enum
 import json
+import operator
+import os
+import struct
 from dataclasses import MISSING, dataclass, field, fields
-from typing import NamedTuple
+from typing import Any, Callable, Dict, Iterator, List, NamedTuple, Union
 
-from . import calls
+from . import calls, messages, model
 from .labels import CURVES, ENERGY_STEPS, CURVE_STEPS, RESOURCE_ROWS, Names
 from .library import Counts
 from .refusals import Refused
@@ -20,17 +23,23 @@ class Misfiled(ValueError):
 
 
 class Kind(enum.IntEnum):
+    """The kind of a resource, which says when it is on-line."""
+
     conventional = 1
     intermittent = 2
     external_asynchronous = 3
 
 
 class Breaker(enum.IntEnum):
+    """The breaker of a resource; an open one keeps it off-line."""
+
     open = 0
     closed = 1
 
 
 class Status(enum.IntFlag):
+    """Status bits of a resource."""
+
     committed = 1
     available = 2
     active_schedule = 4
@@ -38,6 +47,8 @@ class Status(enum.IntFlag):
 
 
 class Flags(enum.IntFlag):
+    """Flags of a resource: what it may provide, and which limits are released."""
+
     regulating = 1
     spinning = 2
     off_line_supplemental = 4
@@ -54,23 +65,38 @@ NO_TRIP = 255
 
 
 class Form(NamedTuple):
-    take: object  # (value, where) to the field's value
-    give: object  # the field's value to one of JSON
+    take: Callable[[Any, str], Any]  # (value, where) to the field's value
+    give: Callable[[Any], Any]  # the field's value to one of JSON
 
 
 def _wrong(where, what):
     raise Misfiled(f"{where or 'the whole'}: {what}")
 
 
+def _short(value):
+    """A value as JSON has it, cut where it is long."""
+    text = json.dumps(value, default=str, ensure_ascii=False)
+    return text if len(text) <= 60 else text[:57] + "..."
+
+
+UNIT_HELP = "power is in kW, ramps in kW a minute, prices of offers, curves and flowgates in cents per MWh, other prices in " \
+            "thousandths of a cent, factors, shares and multipliers in thousandths"
+
+
 def _take_whole(value, where):
-    if isinstance(value, bool) or not isinstance(value, int):
-        _wrong(where, f"a whole number is wanted, not {json.dumps(value, default=str)}")
-    return value
+    """Whole numbers of any kind (NumPy's too); no truth values, no fractions."""
+    try:
+        if not isinstance(value, bool):
+            return operator.index(value)
+    except TypeError:
+        pass
+    unit = f" ({UNIT_HELP})" if isinstance(value, (float, str)) else ""
+    _wrong(where, f"a whole number is wanted, not {_short(value)}{unit}")
 
 
 def _take_text(value, where):
     if not isinstance(value, str):
-        _wrong(where, f"a text is wanted, not {json.dumps(value, default=str)}")
+        _wrong(where, f"a text is wanted, not {_short(value)}")
     return value
 
 
@@ -84,7 +110,7 @@ def _named(names):
             return names[value]
         return _take_whole(value, where)
 
-    return Form(take, lambda value: names(value).name if value in list(names) else value)
+    return Form(take, lambda value: names(value).name if value in list(names) else int(value))
 
 
 def _bits(names):
@@ -100,13 +126,19 @@ def _bits(names):
             bits |= names[name]
         return bits
 
-    return Form(take, lambda value: [bit.name for bit in names if value & bit])
+    known = sum(names)
+
+    def give(value):
+        return [bit.name for bit in names if value & bit] if 0 <= value <= known else int(value)
+
+    return Form(take, give)
 
 
 def _list_of(form, most=None):
     def take(value, where):
-        if not isinstance(value, list):
-            _wrong(where, "a list is wanted")
+        if isinstance(value, (str, bytes, dict)) or not hasattr(value, "__iter__"):
+            _wrong(where, f"a list is wanted, not {_short(value)}")
+        value = list(value)
         if most is not None and len(value) > most:
             _wrong(where, f"at most {most} are possible, not {len(value)}")
         return [form.take(item, f"{where}[{place}]") for place, item in enumerate(value)]
@@ -120,15 +152,20 @@ def _record(cls):
     def take(value, where):
         if not isinstance(value, dict):
             _wrong(where, f"a dictionary is wanted, with {', '.join(_keys(cls))}")
-        for key in value:
-            if key not in _keys(cls) and key != "note":
-                _wrong(where, f"there is no field '{key}'; the fields are {', '.join(_keys(cls))}")
+        known = {name: entry for entry in fields(cls) for name in (entry.name, entry.metadata["key"]) if name}
         taken = {}
+        for key, item in value.items():
+            if key == "note":
+                continue
+            if key not in known:
+                _wrong(where, f"there is no field '{key}'; the fields are {', '.join(_keys(cls))}")
+            entry = known[key]
+            if entry.name in taken:
+                _wrong(where, f"the field '{entry.name}' is given twice, as '{entry.metadata['key']}' too")
+            taken[entry.name] = entry.metadata["form"].take(item, f"{where}.{key}" if where else key)
         for key, entry in _keys(cls).items():
-            if key in value:
-                taken[entry.name] = entry.metadata["form"].take(value[key], f"{where}.{key}" if where else key)
-            elif entry.default is MISSING and entry.default_factory is MISSING:
-                _wrong(where, f"the field '{key}' is missing")
+            if key not in taken and entry.default is MISSING and entry.default_factory is MISSING:
+                _wrong(where, f"the field '{key}' is missing; it is a field of {cls.__name__}")
         return cls(**taken)
 
     def give(value):
@@ -143,10 +180,11 @@ def _record(cls):
 
 
 def _keys(cls):
-    return {entry.metadata["key"] or entry.name: entry for entry in fields(cls)}
+    return {entry.name: entry for entry in fields(cls)}
 
 
 def _field(form, default=MISSING, key=None):
+    """A field with its form; a key is another name under which it is taken."""
     metadata = {"form": form, "key": key}
     if callable(default):
         return field(default_factory=default, metadata=metadata)
@@ -157,7 +195,7 @@ WHOLE = Form(_take_whole, int)
 TEXT = Form(_take_text, str)
 TRIP = Form(
     lambda value, where: NO_TRIP if value is None else _take_whole(value, where),
-    lambda value: None if value == NO_TRIP else value,
+    lambda value: None if value == NO_TRIP else int(value),
 )
 
 
@@ -232,10 +270,10 @@ STEPS_OF_CURVE = _list_of(_record(Step), CURVE_STEPS)
 class Curves(_FourCurves):
     """The four demand curves."""
 
-    operating: list = _field(STEPS_OF_CURVE, list)
-    regulating_plus_spinning: list = _field(STEPS_OF_CURVE, list)
-    regulating: list = _field(STEPS_OF_CURVE, list)
-    short_term: list = _field(STEPS_OF_CURVE, list)
+    operating: List[Step] = _field(STEPS_OF_CURVE, list)
+    regulating_plus_spinning: List[Step] = _field(STEPS_OF_CURVE, list)
+    regulating: List[Step] = _field(STEPS_OF_CURVE, list)
+    short_term: List[Step] = _field(STEPS_OF_CURVE, list)
 
 
 @dataclass
@@ -251,7 +289,7 @@ class Resource:
     ramp_down: int = _field(WHOLE)
     ramp_rate: int = _field(WHOLE)
     initial_energy: int = _field(WHOLE)
-    energy_steps: list = _field(_list_of(_record(Step), ENERGY_STEPS))
+    energy_steps: List[Step] = _field(_list_of(_record(Step), ENERGY_STEPS))
     name: str = _field(TEXT, "")
     status: Status = _field(_bits(Status), Status(0))
     minutes_since_trip: int = _field(TRIP, NO_TRIP)
@@ -265,13 +303,18 @@ class Resource:
     contingency_price: int = _field(WHOLE, 0)
     off_line_short_term_price: int = _field(WHOLE, 0)
 
+    @property
+    def on_line(self) -> bool:
+        """Whether it is on-line; Case.state says why not, and its limits."""
+        return not model.off_line_reasons(self)
+
 
 @dataclass
 class Flowgate:
     """A flowgate: its limit in kW, net of other flows; a shift factor in thousandths for each resource."""
 
     limit: int = _field(WHOLE)
-    shift_factors: list = _field(_list_of(WHOLE))
+    shift_factors: List[int] = _field(_list_of(WHOLE))
     name: str = _field(TEXT, "")
 
 
@@ -279,43 +322,53 @@ class Flowgate:
 # field that it refuses.
 
 POWER, MARKET_POWER, DEMAND, RAMP, FLOWGATE_LIMIT = 2_000_000, 8_000_000, 128_000_000, 400_000, 20_000_000
-OFFER_PRICE = 400_000
+OFFER_PRICE, ROW_PRICE = 400_000, 400_000_000
+KW, KW_A_MINUTE, CENTS, THOUSANDTHS_OF_A_CENT, THOUSANDTHS = (
+    "kW", "kW a minute", "cents per MWh", "thousandths of a cent", "thousandths")
 RESOURCE_FIELDS = [
-    ("estimated_output", -POWER, POWER),
-    ("economic", 0, POWER), ("regulating", 0, POWER), ("emergency", 0, POWER),
-    ("ramp_up", 0, RAMP), ("ramp_down", 0, RAMP), ("ramp_rate", 0, RAMP),
-    ("initial_energy", 0, POWER), ("off_line_response_limit", 0, POWER), ("off_line_short_term_limit", 0, POWER),
-    ("self_schedule", 0, POWER),
-    ("regulating_price", 0, OFFER_PRICE), ("contingency_price", 0, OFFER_PRICE), ("off_line_short_term_price", 0, OFFER_PRICE),
+    ("estimated_output", -POWER, POWER, KW),
+    ("economic", 0, POWER, KW), ("regulating", 0, POWER, KW), ("emergency", 0, POWER, KW),
+    ("ramp_up", 0, RAMP, KW_A_MINUTE), ("ramp_down", 0, RAMP, KW_A_MINUTE), ("ramp_rate", 0, RAMP, KW_A_MINUTE),
+    ("initial_energy", 0, POWER, KW), ("off_line_response_limit", 0, POWER, KW), ("off_line_short_term_limit", 0, POWER, KW),
+    ("self_schedule", 0, POWER, KW),
+    ("regulating_price", 0, OFFER_PRICE, CENTS), ("contingency_price", 0, OFFER_PRICE, CENTS),
+    ("off_line_short_term_price", 0, OFFER_PRICE, CENTS),
 ]
 
 
 class Field(NamedTuple):
+    """A field of a file: its path in the record, its number, and the ends and unit of its range."""
+
     where: str
     number: int
     least: int
     most: int
+    unit: str = ""
+
+    @property
+    def inside(self) -> bool:
+        return self.least <= self.number <= self.most
 
 
 def _step_fields(where, steps, count, most_width, least_price):
     for place in range(count):
         step = steps[place] if place < len(steps) else Step(0, 0)
-        yield Field(f"{where}[{place}].width", step.width, 0, most_width)
-        yield Field(f"{where}[{place}].price", step.price, least_price, OFFER_PRICE)
+        yield Field(f"{where}[{place}].width", step.width, 0, most_width, KW)
+        yield Field(f"{where}[{place}].price", step.price, least_price, OFFER_PRICE, CENTS)
 
 
 def _resource_fields(where, resource, zones):
     for name, least, most in [
         ("kind", 1, 3), ("zone", 1, zones), ("breaker", 0, 1), ("status", 0, 15), ("minutes_since_trip", 0, 255), ("flags", 0, 255),
     ]:
-        yield Field(f"{where}.{name}", int(getattr(resource, name)), least, most)
-    for name, least, most in RESOURCE_FIELDS:
+        yield Field(f"{where}.{name}", getattr(resource, name), least, most)
+    for name, least, most, unit in RESOURCE_FIELDS:
         value = getattr(resource, name)
         if isinstance(value, Limits):
-            yield Field(f"{where}.{name}.minimum", value.minimum, least, most)
-            yield Field(f"{where}.{name}.maximum", value.maximum, least, most)
+            yield Field(f"{where}.{name}.minimum", value.minimum, least, most, unit)
+            yield Field(f"{where}.{name}.maximum", value.maximum, least, most, unit)
         else:
-            yield Field(f"{where}.{name}", value, least, most)
+            yield Field(f"{where}.{name}", value, least, most, unit)
     yield from _step_fields(f"{where}.energy_steps", resource.energy_steps, ENERGY_STEPS, POWER, -OFFER_PRICE)
 
 
@@ -334,86 +387,138 @@ def _laid_out(value, indentation):
     return f"{ends[0]}\n{inner}{lines}\n{indentation}{ends[1]}"
 
 
-class _Filed:
+def _once(pairs):
+    """A dictionary of JSON, none of whose fields is given twice."""
+    taken = dict(pairs)
+    if len(taken) < len(pairs):
+        keys = [key for key, _ in pairs]
+        raise Misfiled(f"the field '{next(key for key in keys if keys.count(key) > 1)}' is given twice")
+    return taken
+
+
+class Filed:
     """What a case and a certificate have in common."""
 
     @classmethod
-    def from_dict(cls, data):
+    def from_dict(cls, data: Dict[str, Any]):
         """From a dictionary; Misfiled says what is wrong with it."""
         return _record(cls).take(data, "")
 
-    def to_dict(self):
+    def to_dict(self) -> Dict[str, Any]:
+        """As a dictionary, with the names that the fields have here."""
         return _record(type(self)).give(self)
 
     @classmethod
-    def from_json(cls, text):
+    def from_json(cls, text: str):
         """From a JSON text."""
         try:
-            data = json.loads(text)
-        except json.JSONDecodeError as error:
+            data = json.loads(text, object_pairs_hook=_once)
+        except Misfiled:
+            raise
+        except ValueError as error:  # no JSON, or a number of more digits than Python takes
             raise Misfiled(f"the text is no JSON: {error}") from None
+        except RecursionError:
+            raise Misfiled("the text is no JSON of a case or certificate: lists in lists without end") from None
         return cls.from_dict(data)
 
-    def to_json(self):
+    def to_json(self) -> str:
         """JSON text; what holds no lists and dictionaries is on one line."""
         return _laid_out(self.to_dict(), "") + "\n"
 
     @classmethod
-    def load(cls, path):
-        """From a JSON file."""
-        with open(path, encoding="utf-8") as file:
-            return cls.from_json(file.read())
+    def load(cls, path: Union[str, "os.PathLike[str]"]):
+        """From a JSON source, or from a file that is made of one: whichever the path holds."""
+        with open(path, "rb") as file:
+            content = file.read()
+        if content[:1].isspace() or content[:1] in (b"{", b"\xef"):  # the last begins a mark that some editors put first
+            try:
+                return cls.from_json(content.decode("utf-8-sig"))
+            except UnicodeDecodeError:
+                raise Misfiled(f"'{path}' is no text in UTF-8") from None
+        return cls.from_bytes(content)
 
-    def numbers(self):
+    def save(self, path: Union[str, "os.PathLike[str]"]) -> None:
+        """Writes the file; as a JSON source if the path ends in '.json'. Nothing is written if it is refused."""
+        content = self.to_json().encode("utf-8") if str(path).endswith(".json") else self.to_bytes()
+        with open(path, "wb") as file:
+            file.write(content)
+
+    def to_bytes(self) -> bytes:
+        raise NotImplementedError
+
+    @classmethod
+    def from_bytes(cls, file: bytes):
+        raise NotImplementedError
+
+    def fields(self) -> Iterator[Field]:
+        raise NotImplementedError
+
+    def misfits(self) -> Iterator[Field]:
+        """The fields whose number their bytes do not hold."""
+        for entry, letter in zip(self.fields(), self._letters(self.counts)):
+            bits = 8 * struct.calcsize(">" + letter)
+            least, most = (-(2**(bits - 1)), 2**(bits - 1) - 1) if letter.islower() else (0, 2**bits - 1)
+            if not least <= entry.number <= most:
+                yield entry
+
+    def numbers(self) -> List[int]:
         """Every field but length and version, in the file's order."""
-        return [entry.number for entry in self.fields()]
+        return [_take_whole(entry.number, entry.where) for entry in self.fields()]
 
 
 @dataclass
-class Case(_Filed):
+class Case(Filed):
     """One Dispatch Interval. What is not given of a curve or of a resource's energy steps is width 0 at price 0."""
 
     demand: int = _field(WHOLE)
     reserves: Reserves = _field(_record(Reserves))
-    zones: list = _field(_list_of(_record(Zone)))
-    resources: list = _field(_list_of(_record(Resource)))
+    zones: List[Zone] = _field(_list_of(_record(Zone)))
+    resources: List[Resource] = _field(_list_of(_record(Resource)))
     name: str = _field(TEXT, "")
     curves: Curves = _field(_record(Curves), Curves)
-    flowgates: list = _field(_list_of(_record(Flowgate)), list)
+    flowgates: List[Flowgate] = _field(_list_of(_record(Flowgate)), list)
 
     @property
-    def counts(self):
+    def counts(self) -> Counts:
         return Counts(len(self.resources), len(self.zones), len(self.flowgates))
 
+    def state(self, number: int) -> model.State:
+        """On-line or not, MAX, MIN, HI, LO and upper bounds of a resource, by its number from 1, with their reasons."""
+        return model.state(self, number)
+
+    def states(self) -> List[model.State]:
+        """The state of each resource."""
+        return model.states(self)
+
     @property
-    def names(self):
+    def names(self) -> Names:
         return Names(*([item.name for item in items] for items in (self.zones, self.resources, self.flowgates)))
 
-    def fields(self):
+    def fields(self) -> Iterator[Field]:
         """Each field of the file but length and version, in its order, with the ends of its range."""
         for what, number, least, most in zip(("resources", "zones", "flowgates"), self.counts, (1, 1, 0), (64, 8, 16)):
             yield Field(f"the number of {what}", number, least, most)
-        yield Field("demand", self.demand, 0, DEMAND)
+        yield Field("demand", self.demand, 0, DEMAND, KW)
         for name in ("contingency", "regulating", "short_term"):
             reserve = getattr(self.reserves, name)
-            yield Field(f"reserves.{name}.multiplier", reserve.multiplier, 1, 5000)
+            yield Field(f"reserves.{name}.multiplier", reserve.multiplier, 1, 5000, THOUSANDTHS)
             yield Field(f"reserves.{name}.minutes", reserve.minutes, 1, 60)
-        for part, most in (("share", 1000), ("requirement", MARKET_POWER)):
+        for part, most, unit in (("share", 1000, THOUSANDTHS), ("requirement", MARKET_POWER, KW)):
             for name in ("regulating", "contingency", "short_term"):
-                yield Field(f"reserves.{name}.{part}", getattr(getattr(self.reserves, name), part), 0, most)
+                yield Field(f"reserves.{name}.{part}", getattr(getattr(self.reserves, name), part), 0, most, unit)
         for curve, steps in zip(CURVE_KEYS, self.curves):
             yield from _step_fields(f"curves.{curve}", steps, CURVE_STEPS, MARKET_POWER, 0)
         for place, zone in enumerate(self.zones):
             for curve, requirement in zip(CURVE_KEYS, zone):
-                yield Field(f"zones[{place}].{curve}", requirement, 0, POWER)
+                yield Field(f"zones[{place}].{curve}", requirement, 0, POWER, KW)
         for place, resource in enumerate(self.resources):
             yield from _resource_fields(f"resources[{place}]", resource, len(self.zones))
         for place, flowgate in enumerate(self.flowgates):
-            yield Field(f"flowgates[{place}].limit", flowgate.limit, -FLOWGATE_LIMIT, FLOWGATE_LIMIT)
+            yield Field(f"flowgates[{place}].limit", flowgate.limit, -FLOWGATE_LIMIT, FLOWGATE_LIMIT, KW)
             for other, factor in enumerate(flowgate.shift_factors):
-                yield Field(f"flowgates[{place}].shift_factors[{other}]", factor, -1000, 1000)
+                yield Field(f"flowgates[{place}].shift_factors[{other}]", factor, -1000, 1000, THOUSANDTHS)
 
-    def to_bytes(self):
+    def to_bytes(self) -> bytes:
         """The case as a file; refused by the library's number, with the first field that it is about."""
         for place, flowgate in enumerate(self.flowgates):
             if len(flowgate.shift_factors) != len(self.resources):
@@ -422,44 +527,42 @@ class Case(_Filed):
             _at_most(f"resources[{place}].energy_steps", resource.energy_steps, ENERGY_STEPS)
         for curve, steps in zip(CURVE_KEYS, self.curves):
             _at_most(f"curves.{curve}", steps, CURVE_STEPS)
+        numbers = self.numbers()
         try:
-            return calls.write_case(self.numbers())
+            return calls.write_case(numbers)
         except Refused as refusal:
-            raise Refused(refusal.number, where=self._refused_at(refusal.number)) from None
-
-    def _refused_at(self, number):
-        """The first field, offer or pair that a refusal is about, in words."""
-        if number in (3, 5, 16):
-            for entry in self.fields():
-                if not entry.least <= entry.number <= entry.most:
-                    return f"{entry.where} is {entry.number:,}, and not {entry.least:,} to {entry.most:,}"
-        if number == 6:
-            for curve, steps in zip(CURVE_KEYS, self.curves):
-                if not _rule_kept(steps, -1):
-                    return f"curves.{curve}"
-            for place, resource in enumerate(self.resources):
-                steps = resource.energy_steps
-                if not _rule_kept(steps, 1) or sum(step.width for step in steps) > POWER:
-                    return f"resources[{place}].energy_steps"
-        if number == 7:
-            for place, resource in enumerate(self.resources):
-                for name in ("economic", "regulating", "emergency"):
-                    limits = getattr(resource, name)
-                    if limits.minimum > limits.maximum:
-                        return f"resources[{place}].{name} is {limits.minimum:,} to {limits.maximum:,}"
-        return ""
+            raise messages.of_record(refusal.number, self) from None
 
     @classmethod
-    def from_bytes(cls, file):
+    def from_bytes(cls, file: bytes) -> "Case":
         """The case of a file; refused if it is not valid."""
-        numbers = iter(calls.read_case(file))
+        return cls._of_numbers(calls.read_case(file))
+
+    @classmethod
+    def unjudged(cls, file: bytes) -> "Case":
+        """The case of a file of the right size, whose numbers are not judged; ValueError if the size is another."""
+        counts = Counts.of_file(file)
+        if len(file) != counts.case_bytes:
+            raise ValueError("the file is not of the size that its counts need")
+        return cls._of_numbers(struct.unpack(">5x" + cls._letters(counts), file))
+
+    @staticmethod
+    def _letters(counts):
+        """The type of each field, as struct has it."""
+        flowgate = "i" + "h" * counts.resources
+        return ("BBBI" + "H" * 9 + "I" * 35 + "IIII" * counts.zones
+                + ("B" * 6 + "i" + "I" * 16 + "Ii" * ENERGY_STEPS) * counts.resources + flowgate * counts.flowgates)
+
+    @classmethod
+    def _of_numbers(cls, numbers):
+        numbers = iter(numbers)
 
         def take(count=1):
             return [next(numbers) for _ in range(count)]
 
         def steps(count):
             taken = [Step(*take(2)) for _ in range(count)]
-            while taken and taken[-1].width == 0:
+            while taken and taken[-1] == Step(0, 0):
                 taken.pop()
             return taken
 
@@ -474,9 +577,9 @@ class Case(_Filed):
         resources = []
         for _ in range(r):
             kind, zone, breaker, status, trip, flags = take(6)
-            values = {"kind": Kind(kind), "zone": zone, "breaker": Breaker(breaker), "status": Status(status),
+            values = {"kind": _known(Kind, kind), "zone": zone, "breaker": _known(Breaker, breaker), "status": Status(status),
                       "minutes_since_trip": trip, "flags": Flags(flags)}
-            for name, _, _ in RESOURCE_FIELDS:
+            for name, *_ in RESOURCE_FIELDS:
                 values[name] = Limits(*take(2)) if name in ("economic", "regulating", "emergency") else take()[0]
             resources.append(Resource(**values, energy_steps=steps(ENERGY_STEPS)))
         flowgates = [Flowgate(take()[0], take(r)) for _ in range(f)]
@@ -488,26 +591,22 @@ def _at_most(where, steps, most):
         _wrong(where, f"at most {most} are possible, not {len(steps)}")
 
 
-def _rule_kept(steps, direction):
-    """Steps of width 0 last and at price 0; prices in the order of the direction, 1 never falling, -1 never rising."""
-    used = [step for step in steps if step.width > 0]
-    empty = steps[len(used):]
-    return (
-        list(steps[:len(used)]) == used
-        and all(step.price == 0 for step in empty)
-        and all(direction * (after.price - before.price) >= 0 for before, after in zip(used, used[1:]))
-    )
+def _known(names, number):
+    return names(number) if number in list(names) else number
 
 
 @dataclass
 class ResourceRows:
-    """The prices of a resource's five rows, in thousandths of a cent."""
+    """The prices of a resource's five rows, in thousandths of a cent. A row's own words, as 'e <= HI', are taken for its name."""
 
     within_max: int = _field(WHOLE, 0, RESOURCE_ROWS[0])
     short_term_within_max: int = _field(WHOLE, 0, RESOURCE_ROWS[1])
     above_min: int = _field(WHOLE, 0, RESOURCE_ROWS[2])
     within_hi: int = _field(WHOLE, 0, RESOURCE_ROWS[3])
     above_lo: int = _field(WHOLE, 0, RESOURCE_ROWS[4])
+
+    def __iter__(self) -> Iterator[int]:
+        return iter([getattr(self, entry.name) for entry in fields(self)])
 
 
 @dataclass
@@ -528,62 +627,81 @@ class RowPrices:
 
     energy: int = _field(WHOLE)
     market: ByCurve = _field(_record(ByCurve), ByCurve)
-    zones: list = _field(_list_of(_record(ByCurve)), list)
-    flowgates: list = _field(_list_of(WHOLE), list)
+    zones: List[ByCurve] = _field(_list_of(_record(ByCurve)), list)
+    flowgates: List[int] = _field(_list_of(WHOLE), list)
 
 
 U32 = 2**32 - 1
 
 
 @dataclass
-class Certificate(_Filed):
+class Certificate(Filed):
     """A proposed dispatch with its shadow prices."""
 
     row_prices: RowPrices = _field(_record(RowPrices))
-    resources: list = _field(_list_of(_record(Dispatch)))
+    resources: List[Dispatch] = _field(_list_of(_record(Dispatch)))
     cleared: ByCurve = _field(_record(ByCurve), ByCurve)
     name: str = _field(TEXT, "")
 
     @property
-    def counts(self):
+    def counts(self) -> Counts:
         return Counts(len(self.resources), len(self.row_prices.zones), len(self.row_prices.flowgates))
 
-    def fields(self):
-        """Each field of the file but length and version, in its order, with the ends that its bytes can hold."""
-        for what, number, least, most in zip(("resources", "zones", "flowgates"), self.counts, (1, 1, 0), (64, 8, 16)):
+    def fields(self) -> Iterator[Field]:
+        """Each field of the file but length and version, in its order, with the ends of its range; of a quantity they are what
+        its bytes hold, as its bound is in the case."""
+        lists = ("resources", "row_prices.zones", "row_prices.flowgates")
+        for what, number, least, most in zip(lists, self.counts, (1, 1, 0), (64, 8, 16)):
             yield Field(f"the number of {what}", number, least, most)
+
+        def price(where, number):
+            return Field(where, number, 0, ROW_PRICE, THOUSANDTHS_OF_A_CENT)
+
         for name, number in zip(CURVE_KEYS, self.cleared):
-            yield Field(f"cleared.{name}", number, 0, U32)
-        yield Field("row_prices.energy", self.row_prices.energy, -(2**31), 2**31 - 1)
+            yield Field(f"cleared.{name}", number, 0, U32, KW)
+        yield Field("row_prices.energy", self.row_prices.energy, -ROW_PRICE, ROW_PRICE, THOUSANDTHS_OF_A_CENT)
         for name, number in zip(CURVE_KEYS, self.row_prices.market):
-            yield Field(f"row_prices.market.{name}", number, 0, U32)
+            yield price(f"row_prices.market.{name}", number)
         for place, zone in enumerate(self.row_prices.zones):
             for name, number in zip(CURVE_KEYS, zone):
-                yield Field(f"row_prices.zones[{place}].{name}", number, 0, U32)
+                yield price(f"row_prices.zones[{place}].{name}", number)
         for place, number in enumerate(self.row_prices.flowgates):
-            yield Field(f"row_prices.flowgates[{place}]", number, 0, U32)
+            yield Field(f"row_prices.flowgates[{place}]", number, 0, OFFER_PRICE, CENTS)
         for place, resource in enumerate(self.resources):
             for name in "egcso":
-                yield Field(f"resources[{place}].{name}", getattr(resource, name), 0, U32)
-            for key, entry in _keys(ResourceRows).items():
-                number = getattr(resource.row_prices, entry.name)
-                yield Field(f"resources[{place}].row_prices['{key}']", number, 0, U32)
+                yield Field(f"resources[{place}].{name}", getattr(resource, name), 0, U32, KW)
+            for name in _keys(ResourceRows):
+                yield price(f"resources[{place}].row_prices.{name}", getattr(resource.row_prices, name))
 
-    def to_bytes(self):
+    @staticmethod
+    def _letters(counts):
+        """The type of each field, as struct has it."""
+        return "BBBIIIIiIIII" + "IIII" * counts.zones + "I" * counts.flowgates + "I" * 10 * counts.resources
+
+    def to_bytes(self) -> bytes:
         """The certificate as a file; whether a case accepts it, the check says."""
+        numbers = self.numbers()
         try:
-            return calls.write_certificate(self.numbers())
+            return calls.write_certificate(numbers)
         except Refused as refusal:
-            for entry in self.fields():
-                if not entry.least <= entry.number <= entry.most:
-                    where = f"{entry.where} is {entry.number:,}, and not {entry.least:,} to {entry.most:,}"
-                    raise Refused(refusal.number, where=where) from None
-            raise
+            raise messages.of_record(refusal.number, self) from None
 
     @classmethod
-    def from_bytes(cls, file):
+    def from_bytes(cls, file: bytes) -> "Certificate":
         """The certificate of a file; neither its prices nor its quantities are judged."""
-        numbers = iter(calls.read_certificate(file))
+        return cls._of_numbers(calls.read_certificate(file))
+
+    @classmethod
+    def unjudged(cls, file: bytes) -> "Certificate":
+        """The certificate of a file of the right size, without the library; ValueError if the size is another."""
+        counts = Counts.of_file(file)
+        if len(file) != counts.certificate_bytes:
+            raise ValueError("the file is not of the size that its counts need")
+        return cls._of_numbers(struct.unpack(">5x" + cls._letters(counts), file))
+
+    @classmethod
+    def _of_numbers(cls, numbers):
+        numbers = iter(numbers)
 
         def take(count):
             return [next(numbers) for _ in range(count)]
@@ -595,12 +713,12 @@ class Certificate(_Filed):
         resources = [Dispatch(*take(5), ResourceRows(*take(5))) for _ in range(r)]
         return cls(row_prices, resources, cleared)
 
-    def prices_of_rows(self):
+    def prices_of_rows(self) -> List[int]:
         """The price of each row, row 1 first, as the file has it."""
         prices = [self.row_prices.energy, *self.row_prices.market]
         for zone in self.row_prices.zones:
             prices += zone
         prices += self.row_prices.flowgates
         for resource in self.resources:
-            prices += [getattr(resource.row_prices, entry.name) for entry in fields(ResourceRows)]
+            prices += resource.row_prices
         return prices

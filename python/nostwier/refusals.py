@@ -40,13 +40,15 @@ ADVICE = {
     9: _VERSION,
     10: "look whether the certificate was made for this case",
     11: "look for an entry that is missing or too many: 44 bytes, 16 a zone, 4 a flowgate, 40 a resource",
-    12: "turn the signs of the solver's duals as reference/README.md says, and clip them: row 1 within +-400,000,000, "
-        "flowgates 0 to 400,000 cents, others 0 to 400,000,000 thousandths of a cent",
+    12: "write the price of every row but row 1 as 0 or more (where a solver gives a negative dual, reference/README.md says which "
+        "sign it counts), and set one beyond its range to the range's end: row 1 within +-400,000,000, flowgates 0 to 400,000 "
+        "cents, others 0 to 400,000,000 thousandths of a cent",
     13: "compare the quantity with its bound in the case; round it down, or look whether the resource is on-line and its flag "
         "is set",
-    14: "round the schedule so that the row is met in whole kW, or let the solver look for whole numbers",
+    14: "change the schedule so that the row is met in whole kW: round it another way, or let the solver look for whole numbers",
     15: "lend a buffer as long as the sizes in nostwier.h say",
-    16: "list every field but length and version, in the file's order; look for a negative number or one of too many digits",
+    16: "look for a negative number or one of too many digits; in a list give every field but length and version, in the file's "
+        "order",
     17: "give the program one case and one certificate, nothing else",
 }
 
@@ -54,22 +56,25 @@ ADVICE = {
 class Refused(Exception):
     """A refusal of the library.
 
-    number   1 to 17
-    place    of 13 the quantity's place, of 14 the row's number, else 0
-    where    the quantity, row or field in words, if it is known, else ''
-    meaning  what the number says
-    advice   what to do about it
+    number    1 to 17
+    place     of 13 the quantity's place, of 14 the row's number, else 0
+    where     what it is about in words, with value, what is possible and why, if it is known, else ''
+    question  what may have gone wrong (a unit, a sign, swapped files), if there is a sign of it, else ''
+    meaning   what the number says
+    advice    what to do about it
     """
 
-    def __init__(self, number, place=0, where=""):
+    def __init__(self, number: int, place: int = 0, where: str = "", question: str = ""):
         self.number = number
         self.place = place
         self.where = where
+        self.question = question
         self.meaning = MEANING.get(number, "no such refusal")
         self.advice = ADVICE.get(number, "look whether the library and this module are of one version")
-        super().__init__(number, place, where)
+        super().__init__(number, place, where, question)
 
-    def __str__(self):
+    def __str__(self) -> str:
         at = f" {self.place}" if self.place else ""
-        where = f" ({self.where})" if self.where else ""
-        return f"refused {self.number}{at}: {self.meaning}{where}. What to do: {self.advice}."
+        where = f": {self.where}" if self.where else ""
+        question = f" {self.question}" if self.question else ""
+        return f"refused {self.number}{at}: {self.meaning}{where}.{question} What to do: {self.advice}."
