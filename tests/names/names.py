@@ -1,9 +1,10 @@
-"""Holds pages of docs/ to the files that they speak of.
+"""Holds README and pages of docs/ to the files that they speak of.
 
 On these pages a code span `Rows.coefficient` names what a file Rows.antt below crates/*/specs or crates/*/proofs
 declares, a code span `limits::portion` names what the code of the crate limits declares, and a code span
-`crates/market/specs/Rows.antt` names a file. Each such span is one check. So is each block of code, whose lines must
-stand together in a file below crates/*/specs, and the length of the page. A block that is marked as text is no code.
+`crates/market/specs/Rows.antt` names a file. Each such span is one check. So is each link to a file, each block of code, whose
+lines must stand together in a file below crates/*/specs, and the length of the page. A block that is marked, as text or with a
+language in which users write, quotes no such file.
 The script first tries itself on a small tree of its own.
 
     python3 names.py TOP      TOP is the top of the repository
@@ -14,13 +15,16 @@ import sys
 import tempfile
 from pathlib import Path
 
-PAGES = {"docs/READING.md": 180, "docs/CHANGING.md": 180}  # with the most lines that each may have
+# with the most lines that each may have
+PAGES = {"docs/READING.md": 180, "docs/CHANGING.md": 190, "docs/MODEL.md": 350, "docs/FORMAT.md": 320}
+FILES_ONLY = {"README.md": 190}  # pages for users, which need not name a definition
+UNQUOTED = {"```text", "```json", "```julia"}
 
 NAME = re.compile(r'«[^»]*»|[^\s(){}.;,@"«»]+')  # what antt takes for a name
 MARKS = {"pub", "unfoldable", "abbrev", "axiom"}
 NAMING_SPAN = re.compile(r"([A-Z][\w′-]*)\.(\S+)")
 CODE_SPAN = re.compile(r"([a-z]\w*)::(\w+(?:::\w+)?)")
-PATH_SPAN = re.compile(r"(\.ci|bench|crates|docs|examples|include|packaging|python|reference|tests)/\S*|\S+\.(antt|c|h|md|py|rs|rt|txt)")
+PATH_SPAN = re.compile(r"(\.ci|bench|crates|docs|examples|include|packaging|python|reference|tests)/\S*|\S+\.(antt|c|cff|h|md|py|rs|rt|txt)")
 
 
 def declared(text):
@@ -88,7 +92,7 @@ def wrong_block(top, block):
     return "these lines stand in no file below crates/*/specs"
 
 
-def check(top, page, most_lines):
+def check(top, page, most_lines, names_wanted=True):
     """Checks a page of a tree; gives the number of checks that passed, and a line for each that did not."""
     if not (top / page).is_file():
         return 0, [f"{page}: there is no such page"]
@@ -98,7 +102,7 @@ def check(top, page, most_lines):
         at = f"{page}:{number}:"
         if line.lstrip().startswith("```"):
             if block is None:
-                block, quoted = [], line.strip() != "```text"
+                block, quoted = [], line.strip() not in UNQUOTED
                 continue
             if quoted:
                 problem = wrong_block(top, block)
@@ -109,6 +113,8 @@ def check(top, page, most_lines):
         elif line.count("`") % 2:
             problems.append(f"{at} a code span does not end on its line, so its names cannot be checked")
         else:
+            for target in re.findall(r"\]\(([^)\s#]+)\)", line):
+                problems.append(None if (top / page).parent.joinpath(target).exists() else f"{at} the link to {target} leads nowhere")
             for span in re.findall(r"`([^`]+)`", line):
                 is_name, problem = wrong_span(top, span)
                 if is_name:
@@ -116,7 +122,7 @@ def check(top, page, most_lines):
                     problems.append(problem and f"{at} `{span}`: {problem}")
     if block is not None:
         problems.append(f"{page}: a block of code does not end")
-    if names == 0:
+    if names == 0 and names_wanted:
         problems.append(f"{page}: it names no definition")
     problems.append(f"{page}: it has {len(lines)} lines, and may have {most_lines}" if len(lines) > most_lines else None)
     wrong = [p for p in problems if p is not None]
@@ -185,6 +191,9 @@ SAMPLE_PAGE = [
     ("`one::Cents::of`", False),
     ("`two::lowest`", False),
     ("`include/one.h`", False),
+    ("`gone.cff`", False),
+    ("[a page](page.md)", True),
+    ("[a page](gone.md)", False),
     ("`a span that is left open", False),
     ("`rt ci`, `n`, `r .field`, `Rows.gone n`, `crates/NAME/src/lib.rt`, MW/min, Rows.gone", None),
 ]
@@ -218,19 +227,24 @@ def self_test():
             outcome = {(3, 0): True, (2, 1): False, (2, 0): None}.get((good, len(bad)))
             expect(f"{line}: {good} passed, {bad}", outcome is right and all(b.startswith("page.md:2: ") for b in bad))
         expect("a page without a name passes", len(check_page(["`page.md`"])[1]) == 1)
+        expect("a page for users without a name fails", check(top, "page.md", 50, False) == (2, []))
         expect("a page of 50 lines fails", check_page(["`Rows.Curve`"] * 50) == (51, []))
         expect("a page of 51 lines passes", len(check_page(["`Rows.Curve`"] * 51)[1]) == 1)
         expect("a code block that is left open passes", len(check_page(["`Rows.Curve`", "```"])[1]) == 1)
         quoted = ["pub data Curve : Type 0 where", "  operating regulating-up : Curve"]
         expect("a quoted block fails", check_page(["`Rows.Curve`", "```", *quoted, "```"]) == (3, []))
         expect("a block of other lines passes", len(check_page(["`Rows.Curve`", "```", *reversed(quoted), "```"])[1]) == 1)
-        expect("a block of text fails", check_page(["`Rows.Curve`", "```text", "bytes → figures", "```"]) == (2, []))
+        for mark in sorted(UNQUOTED):
+            expect(f"a block marked {mark} fails", check_page(["`Rows.Curve`", mark, "bytes → figures", "```"]) == (2, []))
+        expect("a block with another mark passes", len(check_page(["`Rows.Curve`", "```antt", "bytes → figures", "```"])[1]) == 1)
     return passed, wrong
 
 
 def main():
     passed, failed = 0, 0
-    for good, wrong in (self_test(), *(check(Path(sys.argv[1]), page, most) for page, most in PAGES.items())):
+    top = Path(sys.argv[1])
+    pages = [check(top, page, most) for page, most in PAGES.items()] + [check(top, page, most, False) for page, most in FILES_ONLY.items()]
+    for good, wrong in (self_test(), *pages):
         passed += good
         failed += len(wrong)
         for line in wrong:
