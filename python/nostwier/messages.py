@@ -221,10 +221,8 @@ def _of_row(place, case, certificate, names):
     def kw(number):
         return f"{number / 1000:,.3f}" if row.divisor == 1000 else f"{number:,}"
 
-    if row.sense == ">=" or row.sense == "=" and row.left < row.right:
-        gap = f"{kw(row.right - row.left)} kW are missing"
-    else:
-        gap = f"{kw(row.left - row.right)} kW are too many"
+    off = kw(abs(row.left - row.right))
+    gap = f"{off} kW {'is' if off == '1' else 'are'} {'missing' if row.left < row.right else 'too many'}"
     sense = {"=": "equal to", "<=": "at most", ">=": "at least"}[row.sense]
     where = (f"{labels[place - 1]}: {row.left_words} is {kw(row.left)} kW, and it must be {sense} {row.right_words.rstrip(',')}"
              f": {kw(row.right)} kW; {gap}")

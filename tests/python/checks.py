@@ -214,9 +214,9 @@ def refusals():
     # Places in words: the quantity or row, both sides, and why.
     for name, number, place, where, question in (
         ("worked-e", 14, 13, "resource 1: e <= HI: e is 65,001 kW, and it must be at most HI, the initial energy 50,000 plus 5 minutes of "
-                             "ramp up at 3,000 kW a minute: 65,000 kW; 1 kW are too many", ""),
+                             "ramp up at 3,000 kW a minute: 65,000 kW; 1 kW is too many", ""),
         ("worked-f", 14, 1, "energy equals demand: the energy of all resources is 59,999 kW, and it must be equal to the demand: "
-                            "60,000 kW; 1 kW are missing", ""),
+                            "60,000 kW; 1 kW is missing", ""),
         ("worked-g", 13, 5, "resource 1: energy e is 60,000 kW, and at most 0 kW is possible: it is off-line, because its estimated output "
                             "is 499 kW, and 500 kW or more (or -500 kW or less) is needed",
          "Is the unit right? Power is in kW: is the estimated output in MW?"),
