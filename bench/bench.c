@@ -705,8 +705,8 @@ int main(int count, char **arguments)
 
     printf("\n| bar | library | beside it | ratio | |\n|---|---|---|---|---|\n");
     bar("check at R 64, F 16", 1.5, "the baseline (aim 1.0)", to_baseline(&all, CHECK, single_calls), 1e3, "µs");
-    bar("check, 288 intervals in a row (R 64, F 16),", 1.66, "the baseline", row, 1e6, "ms");
-    bar("charges at R 64, F 16", 1.5, "the baseline", to_baseline(&all, CHARGES, single_calls), 1e3, "µs");
+    bar("check, 288 intervals in a row (R 64, F 16),", 1.55, "the baseline", row, 1e6, "ms");
+    bar("charges at R 64, F 16", 1.45, "the baseline", to_baseline(&all, CHARGES, single_calls), 1e3, "µs");
     bar("check at R 64", 5, "that at R 16 (F 16)",
         in_turns((side){nostwier_checks, &all}, (side){nostwier_checks, &small}, single_calls), 1e3, "µs");
     printf("| check at R 64, F 16 at least 200 times faster than GLPK | %.2f µs | %.2f µs | %.0f | %s |\n", glpk.of[0] / 1e3,
