@@ -520,7 +520,7 @@ def run(*words, **environment):
 def commands():
     case, certificate = EXAMPLE / "small.case", EXAMPLE / "small.cert"
     demo = (TOP / "tests" / "example" / "demo.expected").read_text(encoding="utf-8")
-    shown = demo.split("quantities that carry it:\n\n")[1].split("\nA charge on a row")[0]
+    shown = demo.split("quantities that carry it:\n\n")[1].split("\nA charge is a price")[0]
     same("explain prints the part of the demo", run("explain", case, certificate, "--names", EXAMPLE / "small.json"), (0, shown, ""))
     table = [line.split(None, 2) for line in shown.splitlines() if "%  " in line]
     charges = nostwier.charges(case.read_bytes(), certificate.read_bytes())
