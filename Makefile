@@ -24,7 +24,7 @@ help:
 	@echo 'make soak    a C host against the reference on N=1000000 calls of each operation, from a seed that it prints'
 	@echo 'make fuzz    mutated inputs against the reference for SECONDS=60, from a seed that it prints; what differs is shrunk'
 	@echo 'make bench   times of the library beside a baseline in C, the reference and solvers (docs/BENCHMARKS.md)'
-	@echo 'make survey  try plausible wrong definitions, which the theorems must refuse (10 minutes on two cores)'
+	@echo 'make survey  try plausible wrong definitions, which the theorems must refuse (15 minutes on two cores)'
 	@echo 'make fmt     lay out the .rt and .antt files under crates/'
 
 test:

@@ -97,6 +97,7 @@ EDITS = [
     ("signed_as_unsigned", "Numbers", "fieldAt i32 b at = i32At b at", "fieldAt i32 b at = pos (u32At b at)"),
     ("fields_swapped", "Numbers", "replicate 6 u8 ++ (i32 ∷ replicate 16 u32 ++", "(i32 ∷ replicate 6 u8) ++ (replicate 16 u32 ++"),
     ("three_after_sixteen", "Numbers", "∷ unless (countsInRange vs) Counts\n    ∷ unless (numbersFit (fieldsFor fields vs) vs) NumberList", "∷ unless (numbersFit  (fieldsFor fields vs) vs) NumberList\n    ∷ unless (countsInRange vs) Counts"),
+    ("printed_swapped", "Program", "printedServices = energy ∷ regulation ∷ contingency ∷", "printedServices = energy ∷ contingency ∷ regulation ∷"),
     ("length_counts_itself", "Program", "caseIn input = take (4 + u32At input 0) input", "caseIn input = take (u32At input 0) input"),
     ("figures_swapped", "Program", "line boundWord (values .bound .0 ∷ [])", "line boundWord (values .gap .0 ∷ [])"),
 ]

@@ -1,6 +1,6 @@
 // Which resources are on-line, their limits, and the upper bounds of what they provide (01, 'Before the rows'), on records
 // by value. Each function equates its result with the definition for all figures that the record stands for; where
-// numbers are added or multiplied it asks that the record is in range (records, specs/Ranged.antt).
+// numbers are added or multiplied it asks that the record is in range (`case_records`, specs/Ranged.antt).
 ghost use mathlib.Core.Path.{_≡_};
 ghost use mathlib.Core.Bool.{cond, _||_};
 ghost use Prim.Native.Nat.{ℕ, _+_, _*_, _-_, _/_, _<_, _≤_, min, max};

@@ -31,7 +31,7 @@ unfolding minℤ sumOf totalOf upto all across widthOf caseOf resourceAt lengthR
 each-refusal = tt
 
 pub in-order : AsSaid orders
-unfolding minℤ sumOf upto all across widthOf caseOf resourceAt onLine MAX MIN HI LO quantities RAMP SHARE onLineBound serviceBound rows none one minusOne entries spins inReserve inLimit coefficient rightSide leftSide slack amountAt priceAt certificateOf priced quantityOf servicePrice offer pricedUpperBound filled part rowValue netPrice lowest rowCharge pricedCharge charges LMP zoneSupplementalPrice zoneSpinningPrice zoneRegulatingPrice zoneShortTermPrice priceList same
+unfolding minℤ sumOf upto all across widthOf caseOf resourceAt onLine MAX MIN HI LO quantities RAMP SHARE onLineBound serviceBound rows none one minusOne entries spins inReserve inLimit coefficient rightSide leftSide slack amountAt priceAt certificateOf priced quantityOf servicePrice offer pricedUpperBound filled part rowValue netPrice lowest rowCharge pricedCharge charges LMP zoneSupplementalPrice zoneSpinningPrice zoneRegulatingPrice zoneShortTermPrice priceList digitsOn decimal spaced resourceLine same
 in-order = tt
 
 -- so what is shown of accepted certificates is not shown of none

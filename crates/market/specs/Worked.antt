@@ -1,5 +1,5 @@
 -- (a) to (l) of the worked interval, one list under one statement; each refusal number on its own ground; and the order of
--- prices and charges (01, 'Worked interval', 'How each operation refuses', 'Certificate, cost, bound, charges').
+-- prices, charges and a printed line (01, 'Worked interval', 'How each operation refuses', 'Certificate, cost, bound, charges').
 use mathlib.Core.Bool.{Bool, true, false, cond, _&&_}
 use mathlib.Core.List.{List, [], _∷_, _++_, map}
 use Prim.Native.Nat.{ℕ, _+_}
@@ -16,13 +16,13 @@ use Rattle.market.specs.Case.{regulatingReserve}
 use Rattle.market.specs.CaseFile.{caseOf}
 use Rattle.market.specs.Availability.{onLine}
 use Rattle.market.specs.UpperBounds.{RAMP}
-use Rattle.market.specs.Certificate.{certificateOf}
+use Rattle.market.specs.Certificate.{amountsPlace, certificateOf}
 use Rattle.market.specs.Charges.{charges}
 use Rattle.market.specs.Prices.{LMP, priceList}
 use Rattle.market.specs.Refusals.{caseNumberOf, resultOf, answerOf, countOf}
 use Rattle.market.specs.Outcome.{caseAnswer, outcome, priceAnswer, chargeAnswer}
 use Rattle.market.specs.Numbers.{u16Bytes, u32Bytes, caseNumbers, certificateNumbers, readCase, readCertificate, writeCase, writeCertificate}
-use Rattle.market.specs.Program.{printed}
+use Rattle.market.specs.Program.{resourceLine, printed}
 use Rattle.market.specs.Interval.{K, Q, zeros, change, minus32, resourceOfK, demandTo, outputTo, tripTo, kind2Committed, energyTo, row1To, highTo, gatedK, gatedQ}
 
 -- what the definitions give, and what 01 says
@@ -141,11 +141,19 @@ chargesInOrder =
     ++ (pos 0 ∷ pos 10000000000 ∷ asNumbers (zeros 8))
     ++ (negℤ (pos 333) ∷ negℤ (pos 3) ∷ negℤ (pos 3000) ∷ negℤ (pos 6000) ∷ asNumbers (zeros 16))
 
--- what the calls for prices and for charges write
+-- Q with 1, 2, 3, 4 and 5 kW of e, g, c, s and o; the line that is printed of its resource
+abbrev pub providedQ : List ℕ
+providedQ = change (amountsPlace 1 0 0) (u32Bytes 1 ++ (u32Bytes 2 ++ (u32Bytes 3 ++ (u32Bytes 4 ++ u32Bytes 5)))) Q
+
+abbrev pub lineInOrder : List ℕ
+lineInOrder = 49 ∷ 32 ∷ 49 ∷ 32 ∷ 49 ∷ 32 ∷ 50 ∷ 32 ∷ 51 ∷ 32 ∷ 52 ∷ 32 ∷ 53 ∷ 32 ∷ 51 ∷ 48 ∷ 48 ∷ 48 ∷ 48 ∷ 48 ∷ 48 ∷ 10 ∷ []
+
+-- what the calls for prices and for charges write, and what the program prints of a resource
 abbrev pub orders : List Example
 orders =
     record { given = priceList (caseOf K) (certificateOf pricedQ .price); says = pricesInOrder }
     ∷ record { given = charges (caseOf K) (certificateOf pricedQ .amount) (certificateOf pricedQ .price); says = chargesInOrder }
+    ∷ record { given = asNumbers (resourceLine (caseOf K) (certificateOf providedQ) 0); says = asNumbers lineInOrder }
     ∷ []
 
 unfoldable pub same : List ℤ → List ℤ → Bool
