@@ -287,7 +287,7 @@ def _print(text: str) -> None:
         sys.stdout.buffer.write(text.encode("utf-8", "surrogateescape"))
         sys.stdout.flush()
     except (OSError, ValueError) as error:
-        sys.stdout = None  # nothing more is tried at the end
+        setattr(sys, "stdout", None)  # nothing more is tried at the end
         raise Misuse(f"cannot print: {getattr(error, 'strerror', None) or error}") from None
 
 

@@ -89,7 +89,7 @@ def write_certificate(numbers: Iterable[int]) -> bytes:
     return _write("nostwier_write_certificate", numbers, MOST.certificate_bytes)
 
 
-def as_file(file) -> bytes:
+def as_file(file: Union["CaseFile", "CertificateFile"]) -> bytes:
     """A file as it is lent."""
     from .records import Filed
 

@@ -2,7 +2,7 @@
 
 import dataclasses
 import hashlib
-from typing import Any, Dict, List, NamedTuple, Optional
+from typing import TYPE_CHECKING, Any, Dict, List, NamedTuple, Optional
 
 from . import calls, model
 from .labels import Charge, Names, listed_charges
@@ -10,6 +10,9 @@ from .library import VERSION
 from .records import ByCurve, Case, Certificate, ResourceRows
 from .refusals import Refused
 from .units import dollars
+
+if TYPE_CHECKING:
+    from .calls import CaseFile, CertificateFile
 
 INTERVALS_AN_HOUR = 12
 
@@ -25,7 +28,7 @@ class Explained(NamedTuple):
     questions: List[str]  # what may be wrong with the prices
 
 
-def explained(case, certificate, names: Optional[Names] = None) -> Explained:
+def explained(case: "CaseFile", certificate: "CertificateFile", names: Optional[Names] = None) -> Explained:
     """What is to be said of a case and a certificate; refused as the check is."""
     result = calls.check_certificate(case, certificate, names)
     case_record = case if isinstance(case, Case) else Case.from_bytes(case)
@@ -36,7 +39,7 @@ def explained(case, certificate, names: Optional[Names] = None) -> Explained:
                      model.parts(case_record, record), model.summary(case_record, names), _questions(case, record, result.gap))
 
 
-def explain(case, certificate, names: Optional[Names] = None, most: Optional[int] = None) -> str:
+def explain(case: "CaseFile", certificate: "CertificateFile", names: Optional[Names] = None, most: Optional[int] = None) -> str:
     """The text for a case and a certificate, as bytes or records; refused as the check is. Charges of 0 are not listed; of the
     others at most so many."""
     result, prices, charges, parts, summary, questions = explained(case, certificate, names)
@@ -77,10 +80,10 @@ def summary_lines(summary: model.Summary) -> List[str]:
     return lines
 
 
-def cite(case, certificate) -> str:
+def cite(case: "CaseFile", certificate: "CertificateFile") -> str:
     """The sentence to publish of an accepted certificate, with what identifies the two files; refused as the check is."""
     result = calls.check_certificate(case, certificate)
-    case, certificate = calls.as_file(case), calls.as_file(certificate)
+    files = calls.as_file(case), calls.as_file(certificate)
     cost = dollars(result.cost)
     sign = "-" if cost < 0 else ""
     return (
@@ -89,8 +92,8 @@ def cite(case, certificate) -> str:
         "The sentence is about the case as filed: what was rounded on the way into it (shift factors to thousandths, power to kW,\n"
         "prices to cents) is no part of the gap.\n"
         f"Checked by Nostwier {VERSION}.\n"
-        f"Case SHA-256 {hashlib.sha256(case).hexdigest()}\n"
-        f"Certificate SHA-256 {hashlib.sha256(certificate).hexdigest()}\n"
+        f"Case SHA-256 {hashlib.sha256(files[0]).hexdigest()}\n"
+        f"Certificate SHA-256 {hashlib.sha256(files[1]).hexdigest()}\n"
     )
 
 

@@ -69,28 +69,28 @@ def flowgate(limit: Number, factors: Sequence[Number], loads: Iterable[Tuple[Num
     maxima   the most energy of each resource in kW; demand, if they are not known
     """
     exact = [_number(f"shift factor {place}", factor) for place, factor in enumerate(factors, 1)]
-    limit = _number("limit", limit)
-    loads = [(_number(f"load {place}: factor", factor), _number(f"load {place}", load))
+    carried = _number("limit", limit)
+    drawn = [(_number(f"load {place}: factor", factor), _number(f"load {place}", load))
              for place, (factor, load) in enumerate(loads, 1)]
-    demand = sum((load for _, load in loads), Fraction(0)) if demand is None else _number("demand", demand)
-    maxima = [demand] * len(exact) if maxima is None else [_number(f"maximum {p}", m) for p, m in enumerate(maxima, 1)]
+    total = sum((load for _, load in drawn), Fraction(0)) if demand is None else _number("demand", demand)
+    most_of = [total] * len(exact) if maxima is None else [_number(f"maximum {p}", m) for p, m in enumerate(maxima, 1)]
     if not exact:
         raise Misfiled("a flowgate wants a shift factor for each resource; there is none")
-    if len(maxima) != len(exact):
-        raise Misfiled(f"there are {len(exact)} shift factors and {len(maxima)} maxima; give one of each for every resource")
-    if any(abs(factor) > 1 for factor in exact + [factor for factor, _ in loads]):
+    if len(most_of) != len(exact):
+        raise Misfiled(f"there are {len(exact)} shift factors and {len(most_of)} maxima; give one of each for every resource")
+    if any(abs(factor) > 1 for factor in exact + [factor for factor, _ in drawn]):
         raise Misfiled("a shift factor is outside -1 to 1; give kW on the line for one kW more at the bus, not thousandths")
-    if demand <= 0:
+    if total <= 0:
         raise Misfiled("demand is not above 0; give the loads in kW, or the demand")
-    if sum(maxima) < demand:
-        raise Misfiled(f"the resources' maxima sum to {_kw(sum(maxima))} kW, under the demand of {_kw(demand)} kW; is one in MW?")
+    if sum(most_of) < total:
+        raise Misfiled(f"the resources' maxima sum to {_kw(sum(most_of))} kW, under the demand of {_kw(total)} kW; is one in MW?")
     least, most = min(exact), max(exact)
     if least == most:
         raise Misfiled("all shift factors are equal, so no schedule changes the flow on the line; leave the flowgate out")
-    net = limit + sum((factor * load for factor, load in loads), Fraction(0))
+    net = carried + sum((factor * load for factor, load in drawn), Fraction(0))
 
-    filed, scale = _best(exact, net, demand, maxima)
-    low, high = _ends(_errors(filed, scale, exact), demand, maxima)
+    filed, scale = _best(exact, net, total, most_of)
+    low, high = _ends(_errors(filed, scale, exact), total, most_of)
     filed_limit = round((net + (low + high) / 2) * scale)
     if abs(filed_limit) > FLOWGATE_LIMIT:
         raise Misfiled(

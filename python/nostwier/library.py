@@ -33,31 +33,38 @@ class Counts(NamedTuple):
         return cls(*file[5:8])
 
     @property
-    def case_bytes(self):
+    def case_bytes(self) -> int:
+        """Bytes of a case."""
         return 170 + 16 * self.zones + 154 * self.resources + self.flowgates * (4 + 2 * self.resources)
 
     @property
-    def certificate_bytes(self):
+    def certificate_bytes(self) -> int:
+        """Bytes of a certificate."""
         return 44 + 16 * self.zones + 4 * self.flowgates + 40 * self.resources
 
     @property
-    def case_numbers(self):
+    def case_numbers(self) -> int:
+        """Numbers of a case: its fields but length and version."""
         return 48 + 4 * self.zones + 43 * self.resources + self.flowgates * (1 + self.resources)
 
     @property
-    def certificate_numbers(self):
+    def certificate_numbers(self) -> int:
+        """Numbers of a certificate."""
         return 12 + 4 * self.zones + self.flowgates + 10 * self.resources
 
     @property
-    def rows(self):
+    def rows(self) -> int:
+        """Rows, each with its shadow price."""
         return 5 + 4 * self.zones + self.flowgates + 5 * self.resources
 
     @property
-    def prices(self):
+    def prices(self) -> int:
+        """Prices that the call for prices writes: an LMP a resource, four a zone."""
         return self.resources + 4 * self.zones
 
     @property
-    def charges(self):
+    def charges(self) -> int:
+        """Charges that the call for charges writes."""
         return 21 + 4 * self.zones + self.flowgates + 19 * self.resources
 
 

@@ -183,10 +183,7 @@ def quantities(case: "Case", certificate: "Certificate") -> List[Quantity]:
 
 
 class Row(NamedTuple):
-    """A row of a certificate: both sides in words and numbers. Of flowgates they are thousandths of a kW.
-
-    slack is left less right of the row written 'at least'; the row is met if that is not negative, row 1 if it is 0.
-    """
+    """A row of a certificate: both sides in words and numbers. Of flowgates they are thousandths of a kW."""
 
     left_words: str
     left: int
@@ -197,10 +194,12 @@ class Row(NamedTuple):
 
     @property
     def slack(self) -> int:
+        """Left less right of the row written 'at least'."""
         return self.right - self.left if self.sense == "<=" else self.left - self.right
 
     @property
     def met(self) -> bool:
+        """Whether the slack is not negative; of row 1, whether it is 0."""
         return self.slack == 0 if self.sense == "=" else self.slack >= 0
 
 
@@ -251,6 +250,7 @@ class Part(NamedTuple):
 
     @property
     def grains(self) -> int:
+        """The charge that comes of price and amount."""
         return abs(self.price) * self.amount if self.what == "left" else self.price * self.amount
 
 

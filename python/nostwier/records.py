@@ -10,7 +10,7 @@ import operator
 import os
 import struct
 from dataclasses import MISSING, dataclass, field, fields
-from typing import Any, Callable, Dict, Iterator, List, NamedTuple, Union
+from typing import Any, Callable, Dict, Iterator, List, NamedTuple, Type, TypeVar, Union
 
 from . import calls, messages, model
 from .labels import CURVES, ENERGY_STEPS, CURVE_STEPS, RESOURCE_ROWS, Names
@@ -347,6 +347,7 @@ class Field(NamedTuple):
 
     @property
     def inside(self) -> bool:
+        """Whether the number is within its range."""
         return self.least <= self.number <= self.most
 
 
@@ -396,11 +397,14 @@ def _once(pairs):
     return taken
 
 
+OneFiled = TypeVar("OneFiled", bound="Filed")
+
+
 class Filed:
     """What a case and a certificate have in common."""
 
     @classmethod
-    def from_dict(cls, data: Dict[str, Any]):
+    def from_dict(cls: Type[OneFiled], data: Dict[str, Any]) -> OneFiled:
         """From a dictionary; Misfiled says what is wrong with it."""
         return _record(cls).take(data, "")
 
@@ -409,7 +413,7 @@ class Filed:
         return _record(type(self)).give(self)
 
     @classmethod
-    def from_json(cls, text: str):
+    def from_json(cls: Type[OneFiled], text: str) -> OneFiled:
         """From a JSON text."""
         try:
             data = json.loads(text, object_pairs_hook=_once)
@@ -426,7 +430,7 @@ class Filed:
         return _laid_out(self.to_dict(), "") + "\n"
 
     @classmethod
-    def load(cls, path: Union[str, "os.PathLike[str]"]):
+    def load(cls: Type[OneFiled], path: Union[str, "os.PathLike[str]"]) -> OneFiled:
         """From a JSON source, or from a file that is made of one: whichever the path holds."""
         with open(path, "rb") as file:
             content = file.read()
@@ -444,13 +448,25 @@ class Filed:
             file.write(content)
 
     def to_bytes(self) -> bytes:
+        """The file; refused if no such file is valid."""
         raise NotImplementedError
 
     @classmethod
-    def from_bytes(cls, file: bytes):
+    def from_bytes(cls: Type[OneFiled], file: bytes) -> OneFiled:
+        """From a file."""
         raise NotImplementedError
 
     def fields(self) -> Iterator[Field]:
+        """Each field of the file but length and version, in its order."""
+        raise NotImplementedError
+
+    @property
+    def counts(self) -> Counts:
+        """How many resources, zones and flowgates there are."""
+        raise NotImplementedError
+
+    @staticmethod
+    def _letters(counts: Counts) -> str:
         raise NotImplementedError
 
     def misfits(self) -> Iterator[Field]:
@@ -480,6 +496,7 @@ class Case(Filed):
 
     @property
     def counts(self) -> Counts:
+        """How many resources, zones and flowgates there are."""
         return Counts(len(self.resources), len(self.zones), len(self.flowgates))
 
     def state(self, number: int) -> model.State:
@@ -492,7 +509,9 @@ class Case(Filed):
 
     @property
     def names(self) -> Names:
-        return Names(*([item.name for item in items] for items in (self.zones, self.resources, self.flowgates)))
+        """The names of zones, resources and flowgates."""
+        return Names([zone.name for zone in self.zones], [resource.name for resource in self.resources],
+                     [flowgate.name for flowgate in self.flowgates])
 
     def fields(self) -> Iterator[Field]:
         """Each field of the file but length and version, in its order, with the ends of its range."""
@@ -547,7 +566,7 @@ class Case(Filed):
         return cls._of_numbers(struct.unpack(">5x" + cls._letters(counts), file))
 
     @staticmethod
-    def _letters(counts):
+    def _letters(counts: Counts) -> str:
         """The type of each field, as struct has it."""
         flowgate = "i" + "h" * counts.resources
         return ("BBBI" + "H" * 9 + "I" * 35 + "IIII" * counts.zones
@@ -645,6 +664,7 @@ class Certificate(Filed):
 
     @property
     def counts(self) -> Counts:
+        """How many resources, zones and flowgates there are."""
         return Counts(len(self.resources), len(self.row_prices.zones), len(self.row_prices.flowgates))
 
     def fields(self) -> Iterator[Field]:
@@ -674,7 +694,7 @@ class Certificate(Filed):
                 yield price(f"resources[{place}].row_prices.{name}", getattr(resource.row_prices, name))
 
     @staticmethod
-    def _letters(counts):
+    def _letters(counts: Counts) -> str:
         """The type of each field, as struct has it."""
         return "BBBIIIIiIIII" + "IIII" * counts.zones + "I" * counts.flowgates + "I" * 10 * counts.resources
 

@@ -10,6 +10,7 @@ import copy
 import ctypes
 import ctypes.util
 import hashlib
+import inspect
 import json
 import os
 import re
@@ -879,6 +880,16 @@ class Whole:
         return self.number
 
 
+def methods_of(thing):
+    """The public functions, class functions and properties that a class of the module, or one above it, defines."""
+    for kind in (thing.__mro__ if isinstance(thing, type) else ()):
+        if kind.__module__.startswith("nostwier"):
+            for name, member in vars(kind).items():
+                function = getattr(member, "fget", None) or getattr(member, "__func__", member)
+                if not name.startswith("_") and isinstance(function, type(check)):
+                    yield function
+
+
 def package():
     """What a user of the module finds in it."""
     for name in nostwier.__all__:
@@ -887,9 +898,16 @@ def package():
     for name in ("explain", "cite", "Names", "Kind", "Status", "Flags", "Breaker", "__version__", "Case", "Certificate"):
         check(f"{name} is public", name in nostwier.__all__)
     functions = [thing for name in nostwier.__all__ if isinstance(thing := getattr(nostwier, name), type(check))]
-    for function in functions:
-        check(f"{function.__name__} says what it returns", "return" in function.__annotations__)
     check("functions", len(functions) > 15)
+    methods = [method for name in nostwier.__all__ for method in methods_of(getattr(nostwier, name))]
+    check("methods", len(methods) > 20)
+    for function in functions + methods:
+        signature = inspect.signature(function)
+        check(f"{function.__qualname__} has the type of what it returns", signature.return_annotation is not signature.empty)
+        for parameter in signature.parameters.values():
+            check(f"{function.__qualname__} has the type of {parameter.name}",
+                  parameter.annotation is not parameter.empty or parameter.name in ("self", "cls"))
+        check(f"{function.__qualname__} has a text", function.__doc__)
     check("the types are for others too", (TOP / "python" / "nostwier" / "py.typed").exists())
 
     case, certificate = nostwier.Case.from_bytes(pairs["small"][0]), nostwier.Certificate.from_bytes(pairs["small"][1])
