@@ -10,7 +10,7 @@ from typing import Callable, Dict, List, NamedTuple, Optional
 from . import calls, flowgates, model
 from .explain import INTERVALS_AN_HOUR, as_dictionary, cite, explain, explained, summary_dictionary, summary_lines
 from .labels import Names
-from .library import VERSION, Counts, LibraryMissing
+from .library import MOST, VERSION, Counts, LibraryMissing
 from .records import Case, Certificate, Misfiled
 from .refusals import Refused
 from .units import dollars
@@ -18,7 +18,7 @@ from .units import dollars
 STATUS = """\
 Exit status: 0 accepted or done, 1 a file is refused or a source is wrong, 2 wrong use, or a file or the machine at fault.
 """
-LARGEST = 16 * 1024 * 1024  # bytes of a file that is read; a case has 12,266 at most
+LARGEST = 16 * 1024 * 1024  # bytes of a file that is read
 
 
 class Misuse(Exception):
@@ -42,8 +42,8 @@ def _read(path: str) -> bytes:
     except (OSError, ValueError) as error:
         raise Misuse(f"cannot read '{path}': {getattr(error, 'strerror', None) or error}") from None
     if len(content) > LARGEST:
-        raise Misfiled(f"'{path}' is above {LARGEST:,} bytes, and no case or certificate is above 12,266: look whether it is another "
-                       "file")
+        raise Misfiled(f"'{path}' is above {LARGEST:,} bytes, and no case or certificate is above {MOST.case_bytes:,}: look whether it "
+                       "is another file")
     return content
 
 

@@ -74,19 +74,7 @@ def flowgate(limit: Number, factors: Sequence[Number], loads: Iterable[Tuple[Num
              for place, (factor, load) in enumerate(loads, 1)]
     total = sum((load for _, load in drawn), Fraction(0)) if demand is None else _number("demand", demand)
     most_of = [total] * len(exact) if maxima is None else [_number(f"maximum {p}", m) for p, m in enumerate(maxima, 1)]
-    if not exact:
-        raise Misfiled("a flowgate wants a shift factor for each resource; there is none")
-    if len(most_of) != len(exact):
-        raise Misfiled(f"there are {len(exact)} shift factors and {len(most_of)} maxima; give one of each for every resource")
-    if any(abs(factor) > 1 for factor in exact + [factor for factor, _ in drawn]):
-        raise Misfiled("a shift factor is outside -1 to 1; give kW on the line for one kW more at the bus, not thousandths")
-    if total <= 0:
-        raise Misfiled("demand is not above 0; give the loads in kW, or the demand")
-    if sum(most_of) < total:
-        raise Misfiled(f"the resources' maxima sum to {_kw(sum(most_of))} kW, under the demand of {_kw(total)} kW; is one in MW?")
-    least, most = min(exact), max(exact)
-    if least == most:
-        raise Misfiled("all shift factors are equal, so no schedule changes the flow on the line; leave the flowgate out")
+    _check_line(exact, drawn, total, most_of)
     net = carried + sum((factor * load for factor, load in drawn), Fraction(0))
 
     filed, scale = _best(exact, net, total, most_of)
@@ -104,6 +92,22 @@ def flowgate(limit: Number, factors: Sequence[Number], loads: Iterable[Tuple[Num
         Flowgate(limit=filed_limit, shift_factors=filed, name=name), float(constant), float(scale),
         float(max(0, room - low)), float(max(0, high - room)),
     )
+
+
+def _check_line(exact, drawn, total, most_of):
+    """Misfiled, where no flowgate can be made of the line."""
+    if not exact:
+        raise Misfiled("a flowgate wants a shift factor for each resource; there is none")
+    if len(most_of) != len(exact):
+        raise Misfiled(f"there are {len(exact)} shift factors and {len(most_of)} maxima; give one of each for every resource")
+    if any(abs(factor) > 1 for factor in exact + [factor for factor, _ in drawn]):
+        raise Misfiled("a shift factor is outside -1 to 1; give kW on the line for one kW more at the bus, not thousandths")
+    if total <= 0:
+        raise Misfiled("demand is not above 0; give the loads in kW, or the demand")
+    if sum(most_of) < total:
+        raise Misfiled(f"the resources' maxima sum to {_kw(sum(most_of))} kW, under the demand of {_kw(total)} kW; is one in MW?")
+    if min(exact) == max(exact):
+        raise Misfiled("all shift factors are equal, so no schedule changes the flow on the line; leave the flowgate out")
 
 
 def _best(exact, net, demand, maxima):

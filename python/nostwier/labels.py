@@ -5,6 +5,7 @@ from typing import List, NamedTuple
 from .library import Counts
 
 CURVES = ["operating", "regulating-plus-spinning", "regulating", "short-term"]
+CURVE_KEYS = [curve.replace("-", "_") for curve in CURVES]  # as fields are named
 SERVICES = ["energy e", "regulating g", "contingency c", "on-line short-term s", "off-line short-term o"]
 RESOURCE_ROWS = ["e+g+c <= MAX", "e+s <= MAX", "e-g >= MIN", "e <= HI", "e >= LO"]
 ENERGY_STEPS, CURVE_STEPS = 10, 4

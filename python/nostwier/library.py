@@ -11,8 +11,6 @@ VARIABLE = "NOSTWIER_LIBRARY"
 SONAME = "libnostwier.so.1"
 BUILD_TREE = Path(__file__).resolve().parents[2] / "target" / "lib" / SONAME
 
-MOST_RESOURCES, MOST_ZONES, MOST_FLOWGATES = 64, 8, 16
-
 
 class LibraryMissing(Exception):
     """The shared library was not found, or it is another one."""
@@ -68,7 +66,7 @@ class Counts(NamedTuple):
         return 21 + 4 * self.zones + self.flowgates + 19 * self.resources
 
 
-MOST = Counts(MOST_RESOURCES, MOST_ZONES, MOST_FLOWGATES)
+LEAST, MOST = Counts(1, 1, 0), Counts(64, 8, 16)
 
 
 class ResultRecord(ctypes.Structure):

@@ -7,7 +7,8 @@ import re
 from typing import Optional
 
 from . import model
-from .labels import CURVES, Names, quantity_labels, row_labels
+from .enums import Kind
+from .labels import CURVE_KEYS, CURVES, Names, quantity_labels, row_labels
 from .library import Counts
 from .refusals import Refused
 
@@ -110,13 +111,15 @@ def _is_text(file):
 
 
 def _of_fields(number, record, names):
+    from .records import POWER
+
     if number in (3, 5, 12, 16):
         prices = number == 12
         for entry in record.fields():
             if not entry.inside and (not prices or entry.unit not in ("kW", "")):
                 return Refused(number, where=_out(entry, names), question=_sign(entry) or _unit(entry))
     if number == 6:
-        for key, curve, steps in zip(("operating", "regulating_plus_spinning", "regulating", "short_term"), CURVES, record.curves):
+        for key, curve, steps in zip(CURVE_KEYS, CURVES, record.curves):
             broken = _broken_step(steps, -1)
             if broken:
                 return Refused(6, where=f"curves.{key}, the {curve} demand curve: {broken}")
@@ -124,8 +127,8 @@ def _of_fields(number, record, names):
             steps = resource.energy_steps
             broken = _broken_step(steps, 1)
             total = sum(step.width for step in steps)
-            if not broken and total > 2_000_000:
-                broken = f"the widths sum to {total:,} kW, and 2,000,000 is the most{model.asks(total, 2_000_000, 'kW')}"
+            if not broken and total > POWER:
+                broken = f"the widths sum to {total:,} kW, and {POWER:,} is the most{model.asks(total, POWER, 'kW')}"
             if broken:
                 return Refused(6, where=f"resources[{place}].energy_steps of {names.of('resource', place + 1)}: {broken}")
     if number == 7:
@@ -205,9 +208,9 @@ def _of_quantity(place, case, certificate, names):
     amount, bound = model.quantities(case, certificate)[place - 1]
     where = f"{labels[place - 1]} is {amount:,} kW, and at most {bound.kw:,} kW is possible: {bound.why}"
     question = _question(amount, bound.kw)
-    if place > 4 and not question:
-        resource = case.resources[(place - 5) // 5]
-        if resource.kind == 1 and 0 < abs(resource.estimated_output) < 500:
+    if place > len(CURVES) and not question:
+        resource = case.resources[(place - len(CURVES) - 1) // len(model.QUANTITIES)]
+        if resource.kind == Kind.conventional and 0 < abs(resource.estimated_output) < model.ON_LINE_OUTPUT:
             question = "Is the unit right? Power is in kW: is the estimated output in MW?"
     return Refused(13, place, where, question)
 

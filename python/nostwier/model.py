@@ -6,7 +6,8 @@ It serves messages alone. The library judges: no verdict and no number of an ans
 
 from typing import TYPE_CHECKING, Iterator, List, NamedTuple, Optional, Tuple
 
-from .labels import CURVES, Names
+from .enums import Breaker, Flags, Kind, Status
+from .labels import CURVE_STEPS, CURVES, ENERGY_STEPS, Names
 
 if TYPE_CHECKING:
     from .records import Case, Certificate, Resource
@@ -14,11 +15,6 @@ if TYPE_CHECKING:
 ON_LINE_OUTPUT = 500  # kW, of a conventional resource
 TRIP_MINUTES = 15  # a conventional resource is on-line only if it tripped longer ago
 INTERVAL_MINUTES = 5
-NO_TRIP = 255
-
-COMMITTED, AVAILABLE, ACTIVE_SCHEDULE, ON_LINE_SUPPLEMENTAL = 1, 2, 4, 8
-(REGULATING, SPINNING, OFF_LINE_SUPPLEMENTAL, OFF_LINE_SHORT_TERM, EMERGENCY_MAXIMUM_RELEASED, SELF_SCHEDULED,
- EMERGENCY_MINIMUM_RELEASED, ON_LINE_SHORT_TERM) = (1 << bit for bit in range(8))
 
 
 class Figure(NamedTuple):
@@ -56,15 +52,15 @@ def off_line_reasons(resource: "Resource") -> List[str]:
     """Why a resource is not on-line; none if it is."""
     reasons = []
     output = resource.estimated_output
-    if resource.kind == 2:
-        if not resource.status & COMMITTED:
+    if resource.kind == Kind.intermittent:
+        if not resource.status & Status.committed:
             reasons.append("it has not the status 'committed'")
         if output <= 0:
             reasons.append(f"its estimated output is {output:,} kW, and an intermittent resource is on-line only above 0 kW")
-    elif resource.kind == 3:
-        if not resource.status & AVAILABLE:
+    elif resource.kind == Kind.external_asynchronous:
+        if not resource.status & Status.available:
             reasons.append("it has not the status 'available'")
-        if not resource.status & ACTIVE_SCHEDULE:
+        if not resource.status & Status.active_schedule:
             reasons.append("it has not the status 'active_schedule'")
     else:
         if -ON_LINE_OUTPUT < output < ON_LINE_OUTPUT:
@@ -72,7 +68,7 @@ def off_line_reasons(resource: "Resource") -> List[str]:
                            "less) is needed")
         if resource.minutes_since_trip <= TRIP_MINUTES:
             reasons.append(f"it tripped {resource.minutes_since_trip} minutes ago, and more than {TRIP_MINUTES} are needed")
-    if resource.breaker != 1:
+    if resource.breaker != Breaker.closed:
         reasons.append("its breaker is open")
     return reasons
 
@@ -83,45 +79,28 @@ def state(case: "Case", number: int) -> State:
         raise IndexError(f"there is no resource {number}: they are numbered from 1 to {len(case.resources)}")
     resource = case.resources[number - 1]
     reasons = off_line_reasons(resource)
-    flags, reserves = resource.flags, case.reserves
-    nothing = Figure(0, "")
-    economic = Figure(resource.economic.maximum, "the economic maximum")
-    if reasons:
-        off = "it is off-line, because " + ", and ".join(reasons)
-        off_line = Figure(0, off)
-        c = o = Figure(0, "")
-        if flags & OFF_LINE_SUPPLEMENTAL:
-            c = _least([economic, Figure(resource.off_line_response_limit, "the off-line response limit"),
-                        _share(reserves.contingency, "contingency")], off)
-        else:
-            c = Figure(0, f"{off}, and its flag 'off_line_supplemental' is clear")
-        if flags & OFF_LINE_SHORT_TERM:
-            o = _least([economic, Figure(resource.off_line_short_term_limit, "the off-line short-term limit")], off)
-        else:
-            o = Figure(0, f"{off}, and its flag 'off_line_short_term' is clear")
-        top = Figure(economic.kw, "the economic maximum, as it is off-line")
-        floor = Figure(0, "0, as it is off-line")
-        return State(False, reasons, top, floor, top, floor, off_line, off_line, c, off_line, o, False)
+    return _off_line_state(case, resource, reasons) if reasons else _on_line_state(case, resource)
 
-    if flags & EMERGENCY_MAXIMUM_RELEASED:
-        most = Figure(resource.emergency.maximum, "the emergency maximum, as flag 'emergency_maximum_released' is set")
-    elif flags & REGULATING:
-        most = Figure(resource.regulating.maximum, "the regulating maximum, as flag 'regulating' is set")
+
+def _off_line_state(case, resource, reasons):
+    off = "it is off-line, because " + ", and ".join(reasons)
+    economic = _economic(resource)
+    if resource.flags & Flags.off_line_supplemental:
+        c = _least([economic, Figure(resource.off_line_response_limit, "the off-line response limit"),
+                    _share(case.reserves.contingency, "contingency")], off)
     else:
-        most = economic
-    if flags & EMERGENCY_MINIMUM_RELEASED:
-        least = Figure(resource.emergency.minimum, "the emergency minimum, as flag 'emergency_minimum_released' is set")
-    elif flags & REGULATING:
-        least = Figure(resource.regulating.minimum, "the regulating minimum, as flag 'regulating' is set")
+        c = Figure(0, f"{off}, and its flag 'off_line_supplemental' is clear")
+    if resource.flags & Flags.off_line_short_term:
+        o = _least([economic, Figure(resource.off_line_short_term_limit, "the off-line short-term limit")], off)
     else:
-        least = Figure(resource.economic.minimum, "the economic minimum")
-    initial, up, down = resource.initial_energy, resource.ramp_up, resource.ramp_down
-    hi = Figure(initial + INTERVAL_MINUTES * up,
-                f"the initial energy {initial:,} plus {INTERVAL_MINUTES} minutes of ramp up at {up:,} kW a minute")
-    lo = Figure(max(0, initial - INTERVAL_MINUTES * down),
-                f"the initial energy {initial:,} less {INTERVAL_MINUTES} minutes of ramp down at {down:,} kW a minute, at least 0")
-    if flags & SELF_SCHEDULED and resource.self_schedule > lo.kw:
-        lo = Figure(resource.self_schedule, "the self-schedule, as flag 'self_scheduled' is set")
+        o = Figure(0, f"{off}, and its flag 'off_line_short_term' is clear")
+    none, top, floor = Figure(0, off), Figure(economic.kw, "the economic maximum, as it is off-line"), Figure(0, "0, as it is off-line")
+    return State(False, reasons, top, floor, top, floor, none, none, c, none, o, False)
+
+
+def _on_line_state(case, resource):
+    flags, reserves = resource.flags, case.reserves
+    most, least = _most_and_least(resource)
 
     def reserve(figures, name, allowed, what):
         if not allowed:
@@ -129,15 +108,45 @@ def state(case: "Case", number: int) -> State:
         return _least([_ramp(resource, figures, name), _share(figures, name), Figure(most.kw, f"MAX, {most.why}")], "")
 
     return State(
-        True, [], most, least, hi, lo,
+        True, [], most, least, *_ramped(resource),
         Figure(sum(step.width for step in resource.energy_steps), "the sum of the widths of its energy steps"),
-        reserve(reserves.regulating, "regulating", flags & REGULATING, "its flag 'regulating' is clear"),
-        reserve(reserves.contingency, "contingency", flags & SPINNING or resource.status & ON_LINE_SUPPLEMENTAL,
+        reserve(reserves.regulating, "regulating", flags & Flags.regulating, "its flag 'regulating' is clear"),
+        reserve(reserves.contingency, "contingency", flags & Flags.spinning or resource.status & Status.on_line_supplemental,
                 "its flag 'spinning' is clear, and it has not the status 'on_line_supplemental'"),
-        reserve(reserves.short_term, "short_term", flags & ON_LINE_SHORT_TERM, "its flag 'on_line_short_term' is clear"),
-        nothing._replace(why="it is on-line, and this quantity is for off-line resources"),
-        bool(flags & SPINNING),
+        reserve(reserves.short_term, "short_term", flags & Flags.on_line_short_term, "its flag 'on_line_short_term' is clear"),
+        Figure(0, "it is on-line, and this quantity is for off-line resources"),
+        bool(flags & Flags.spinning),
     )
+
+
+def _economic(resource):
+    return Figure(resource.economic.maximum, "the economic maximum")
+
+
+def _most_and_least(resource):
+    """MAX and MIN on-line: a released emergency limit comes first, then the regulating one."""
+    flags = resource.flags
+    most, least = _economic(resource), Figure(resource.economic.minimum, "the economic minimum")
+    if flags & Flags.regulating:
+        most = Figure(resource.regulating.maximum, "the regulating maximum, as flag 'regulating' is set")
+        least = Figure(resource.regulating.minimum, "the regulating minimum, as flag 'regulating' is set")
+    if flags & Flags.emergency_maximum_released:
+        most = Figure(resource.emergency.maximum, "the emergency maximum, as flag 'emergency_maximum_released' is set")
+    if flags & Flags.emergency_minimum_released:
+        least = Figure(resource.emergency.minimum, "the emergency minimum, as flag 'emergency_minimum_released' is set")
+    return most, least
+
+
+def _ramped(resource):
+    """HI and LO on-line."""
+    initial, up, down = resource.initial_energy, resource.ramp_up, resource.ramp_down
+    hi = Figure(initial + INTERVAL_MINUTES * up,
+                f"the initial energy {initial:,} plus {INTERVAL_MINUTES} minutes of ramp up at {up:,} kW a minute")
+    lo = Figure(max(0, initial - INTERVAL_MINUTES * down),
+                f"the initial energy {initial:,} less {INTERVAL_MINUTES} minutes of ramp down at {down:,} kW a minute, at least 0")
+    if resource.flags & Flags.self_scheduled and resource.self_schedule > lo.kw:
+        lo = Figure(resource.self_schedule, "the self-schedule, as flag 'self_scheduled' is set")
+    return hi, lo
 
 
 def states(case: "Case") -> List[State]:
@@ -270,7 +279,7 @@ def parts(case: "Case", certificate: "Certificate") -> List[Part]:
         flow = sum(price * factor for price, factor in zip(certificate.row_prices.flowgates, factors))
         energy = certificate.row_prices.energy - flow - within_max - short_within_max + above_min - within_hi + above_lo
         left = d.e
-        for step in _padded(resource.energy_steps, 10):
+        for step in _padded(resource.energy_steps, ENERGY_STEPS):
             used = min(left, step.width)
             left -= used
             parts.append(_part(1000 * step.price - energy, used, step.width if s.on_line else 0))
@@ -281,7 +290,7 @@ def parts(case: "Case", certificate: "Certificate") -> List[Part]:
         parts.append(_part(1000 * resource.off_line_short_term_price - own[3], d.o, s.o.kw))
     for price, cleared, steps in zip(market, certificate.cleared, case.curves):
         left = cleared
-        for step in _padded(steps, 4):
+        for step in _padded(steps, CURVE_STEPS):
             used = min(left, step.width)
             left -= used
             parts.append(_part(price - 1000 * step.price, used, step.width))
@@ -323,40 +332,53 @@ def summary(case: "Case", names: Optional[Names] = None) -> Summary:
     least = sum(max(s.minimum.kw, s.lo.kw) for s in its if s.on_line)
     offers = [step.price for resource in case.resources for step in resource.energy_steps if step.width]
     off_line = [(names.of("resource", number), ", and ".join(s.reasons)) for number, s in enumerate(its, 1) if not s.on_line]
-    warnings = []
-    if case.demand > most:
-        warnings.append(f"no schedule can meet the demand of {mw(case.demand)} MW: the resources that are on-line can give at most "
-                        f"{mw(most)} MW (each the least of its steps' widths, MAX and HI)"
-                        + ("; see above what keeps the others off-line" if off_line else "") + asks(case.demand, most, "kW"))
-    if case.demand < least:
-        warnings.append(f"no schedule can keep to the demand of {mw(case.demand)} MW: the resources that are on-line must give at "
-                        f"least {mw(least)} MW (each the larger of MIN and LO)" + asks(least, case.demand, "kW"))
+    warnings = [*_unmet_demand(case.demand, most, least, off_line), *_out_of_reach(its, names), *_short_zones(case, its, names),
+                *_odd_units(case, offers)]
+    return Summary(case.demand, sum(s.on_line for s in its), most, least, (min(offers), max(offers)) if offers else None, off_line,
+                   warnings)
+
+
+def _unmet_demand(demand, most, least, off_line):
+    if demand > most:
+        yield (f"no schedule can meet the demand of {mw(demand)} MW: the resources that are on-line can give at most "
+               f"{mw(most)} MW (each the least of its steps' widths, MAX and HI)"
+               + ("; see above what keeps the others off-line" if off_line else "") + asks(demand, most, "kW"))
+    if demand < least:
+        yield (f"no schedule can keep to the demand of {mw(demand)} MW: the resources that are on-line must give at "
+               f"least {mw(least)} MW (each the larger of MIN and LO)" + asks(least, demand, "kW"))
+
+
+def _out_of_reach(its, names):
     for number, s in enumerate(its, 1):
         name = names.of("resource", number)
         top, bottom = min(s.e.kw, s.maximum.kw, s.hi.kw), max(s.minimum.kw, s.lo.kw)
         if s.on_line and top < bottom:
-            warnings.append(f"no schedule: {name} must give at least {bottom:,} kW and can give at most {top:,} kW (steps' widths "
-                            f"{s.e.kw:,}, MAX {s.maximum.kw:,}, HI {s.hi.kw:,}, MIN {s.minimum.kw:,}, LO {s.lo.kw:,})")
+            yield (f"no schedule: {name} must give at least {bottom:,} kW and can give at most {top:,} kW (steps' widths "
+                   f"{s.e.kw:,}, MAX {s.maximum.kw:,}, HI {s.hi.kw:,}, MIN {s.minimum.kw:,}, LO {s.lo.kw:,})")
+
+
+def _short_zones(case, its, names):
     for number, zone in enumerate(case.zones, 1):
         chosen = [s for s, resource in zip(its, case.resources) if resource.zone == number]
         can = (sum(s.g.kw + s.c.kw for s in chosen), sum(s.g.kw + (s.c.kw if s.spinning else 0) for s in chosen),
                sum(s.g.kw for s in chosen), sum(s.s.kw + s.o.kw for s in chosen))
         for curve, requirement, kw in zip(CURVES, zone, can):
             if requirement > kw:
-                warnings.append(f"no schedule can meet the {curve} requirement of {names.of('zone', number)}, {requirement:,} kW: its resources "
-                                f"can give at most {kw:,} kW by their flags, ramps and shares{asks(requirement, kw, 'kW')}")
+                yield (f"no schedule can meet the {curve} requirement of {names.of('zone', number)}, {requirement:,} kW: its resources "
+                       f"can give at most {kw:,} kW by their flags, ramps and shares{asks(requirement, kw, 'kW')}")
+
+
+def _odd_units(case, offers):
     powers = [case.demand] + [resource.economic.maximum for resource in case.resources]
     if 0 < max(powers) < 10_000:
-        warnings.append(f"no power in this case is above {max(powers):,} kW. Is it filed in MW? Power is in kW: multiply by 1,000")
+        yield (f"no power in this case is above {max(powers):,} kW. Is it filed in MW? Power is in kW: multiply by 1,000")
     top = max((abs(price) for price in offers), default=0)
     if 0 < top < 500:
-        warnings.append(f"no energy offer is above {top / 100:,.2f} $/MWh. Is it filed in dollars? Prices of offers are in cents per "
-                        "MWh: multiply by 100")
+        yield (f"no energy offer is above {top / 100:,.2f} $/MWh. Is it filed in dollars? Prices of offers are in cents per "
+               "MWh: multiply by 100")
     if top > 350_000 or len(offers) and min(offers) > 100_000:
-        warnings.append(f"energy offers go up to {top / 100:,.2f} $/MWh. Prices of offers are in cents per MWh: are these in "
-                        "thousandths of a cent?")
-    return Summary(case.demand, sum(s.on_line for s in its), most, least, (min(offers), max(offers)) if offers else None, off_line,
-                   warnings)
+        yield (f"energy offers go up to {top / 100:,.2f} $/MWh. Prices of offers are in cents per MWh: are these in "
+               "thousandths of a cent?")
 
 
 def mw(kw: int) -> str:

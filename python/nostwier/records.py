@@ -4,7 +4,6 @@ In dictionaries and JSON a field has the name that it has here. Kind, status and
 'note' are free text that no file carries. Fields with a default may be left out. Numbers are whole.
 """
 
-import enum
 import json
 import operator
 import os
@@ -13,53 +12,15 @@ from dataclasses import MISSING, dataclass, field, fields
 from typing import Any, Callable, Dict, Iterator, List, NamedTuple, Type, TypeVar, Union
 
 from . import calls, messages, model
-from .labels import CURVES, ENERGY_STEPS, CURVE_STEPS, RESOURCE_ROWS, Names
-from .library import Counts
+from .enums import NO_TRIP, Breaker, Flags, Kind, Status
+from .labels import CURVE_KEYS, CURVE_STEPS, CURVES, ENERGY_STEPS, RESOURCE_ROWS, Names
+from .library import LEAST, MOST, Counts
 from .refusals import Refused
 
 
 class Misfiled(ValueError):
     """A dictionary or JSON text that is no case or certificate: says where, and what is wanted."""
 
-
-class Kind(enum.IntEnum):
-    """The kind of a resource, which says when it is on-line."""
-
-    conventional = 1
-    intermittent = 2
-    external_asynchronous = 3
-
-
-class Breaker(enum.IntEnum):
-    """The breaker of a resource; an open one keeps it off-line."""
-
-    open = 0
-    closed = 1
-
-
-class Status(enum.IntFlag):
-    """Status bits of a resource."""
-
-    committed = 1
-    available = 2
-    active_schedule = 4
-    on_line_supplemental = 8
-
-
-class Flags(enum.IntFlag):
-    """Flags of a resource: what it may provide, and which limits are released."""
-
-    regulating = 1
-    spinning = 2
-    off_line_supplemental = 4
-    off_line_short_term = 8
-    emergency_maximum_released = 16
-    self_scheduled = 32
-    emergency_minimum_released = 64
-    on_line_short_term = 128
-
-
-NO_TRIP = 255
 
 # ---- Forms: how a value is taken out of a dictionary, and put into one.
 
@@ -230,9 +191,6 @@ class Reserves:
     contingency: Reserve = _field(_record(Reserve))
     regulating: Reserve = _field(_record(Reserve))
     short_term: Reserve = _field(_record(Reserve))
-
-
-CURVE_KEYS = [curve.replace("-", "_") for curve in CURVES]
 
 
 class _FourCurves:
@@ -515,7 +473,7 @@ class Case(Filed):
 
     def fields(self) -> Iterator[Field]:
         """Each field of the file but length and version, in its order, with the ends of its range."""
-        for what, number, least, most in zip(("resources", "zones", "flowgates"), self.counts, (1, 1, 0), (64, 8, 16)):
+        for what, number, least, most in zip(("resources", "zones", "flowgates"), self.counts, LEAST, MOST):
             yield Field(f"the number of {what}", number, least, most)
         yield Field("demand", self.demand, 0, DEMAND, KW)
         for name in ("contingency", "regulating", "short_term"):
@@ -671,7 +629,7 @@ class Certificate(Filed):
         """Each field of the file but length and version, in its order, with the ends of its range; of a quantity they are what
         its bytes hold, as its bound is in the case."""
         lists = ("resources", "row_prices.zones", "row_prices.flowgates")
-        for what, number, least, most in zip(lists, self.counts, (1, 1, 0), (64, 8, 16)):
+        for what, number, least, most in zip(lists, self.counts, LEAST, MOST):
             yield Field(f"the number of {what}", number, least, most)
 
         def price(where, number):
