@@ -188,6 +188,8 @@ class Reserve:
 
 @dataclass
 class Reserves:
+    """The figures of each kind of reserve in the whole market."""
+
     contingency: Reserve = _field(_record(Reserve))
     regulating: Reserve = _field(_record(Reserve))
     short_term: Reserve = _field(_record(Reserve))

@@ -286,7 +286,8 @@ HEADS = ("length", "version", "R", "Z", "F")
 def check_sizes(page):
     sizes = page.sizes()
     most = [re.fullmatch(r"(\d+) to (\d+)", sizes[what]) for what in ("resources, R", "zones, Z", "flowgates, F")]
-    yield "the ends of R, Z and F", all(most) and [tuple(map(int, m.groups())) for m in most] == [(1, 64), (1, 8), (0, 16)]
+    yield "the ends of R, Z and F", all(most) and [tuple(map(int, m.groups())) for m in most] == [
+        (entry.least, entry.most) for entry in page.entries("Case", SMALL)[2:5]]
     for counts in COUNTS:
         _, _, case, certificate = roomy(counts)
         both = (case, len(case), certificate, len(certificate))

@@ -41,7 +41,8 @@ def command(*words):
 
 
 def says(what, ran, status, *words):
-    """The command ended with the status; a refusal is one line; what it says has the words (regular expressions)."""
+    """The command ended with the status; a refusal is one line; what it says has the words (regular expressions), before the advice
+    that is the same for every refusal by that number."""
     shown = f"status {ran.returncode}: {ran.stdout}{ran.stderr}"
     check(f"{what}: exit status {status}", ran.returncode == status, shown)
     check(f"{what}: no traceback", "Traceback" not in ran.stderr, shown)
@@ -49,7 +50,8 @@ def says(what, ran, status, *words):
         check(f"{what}: one line on standard error, none on standard output",
               ran.stderr.startswith("nostwier") and ran.stderr.count("\n") == 1 and not ran.stdout, shown)
     for word in words:
-        check(f"{what}: says '{word}'", re.search(word, ran.stdout + ran.stderr, re.IGNORECASE | re.DOTALL), shown)
+        check(f"{what}: says '{word}'", re.search(word, (ran.stdout + ran.stderr).split(" What to do: ")[0], re.IGNORECASE | re.DOTALL),
+              shown)
 
 
 # ---- The five-bus system, as a user copies it out of the textbook.
@@ -172,7 +174,8 @@ def story():
     price = (35 - 10) / (factors["E"] - factors["D"])
     wanted = [35 - price * (factors[bus] - factors["D"]) for _, _, _, bus in GENERATORS]
     lmps = [lmp / 100_000 for lmp in nostwier.prices(*files).lmps]
-    check("the LMPs are those of the exact line, to two cents", all(abs(a - b) < 0.02 for a, b in zip(lmps, wanted)), f"{lmps} {wanted}")
+    check("the LMPs are those of the exact line, to two cents", len(lmps) == len(wanted) and
+          all(abs(a - b) < 0.02 for a, b in zip(lmps, wanted)), f"{lmps} {wanted}")
     return "five_bus.json", case, certificate, own
 
 
@@ -229,8 +232,8 @@ def changed_certificate(name, change):
 def damages(source_name, own, filed):
     case, certificate = (HOME / CASE).read_bytes(), (HOME / CERT).read_bytes()
 
-    says("truncated", command("explain", write("cut.case", case[:-10]), CERT), 1, "refused 1:", "cut short", "10 bytes|bytes after")
-    says("truncated certificate", command("explain", CASE, write("cut.cert", certificate[:-1])), 1, "refused 8:", "cut short")
+    says("truncated", command("explain", write("cut.case", case[:-10]), CERT), 1, "refused 1:", r"Was it cut short by 10 bytes\?")
+    says("truncated certificate", command("explain", CASE, write("cut.cert", certificate[:-1])), 1, "refused 8:", r"Was it cut short by 1 bytes?\?")
     says("empty", command("explain", write("empty.case", b""), CERT), 1, "refused 1:", "empty")
 
     dollars = copy.deepcopy(own)
@@ -252,7 +255,7 @@ def damages(source_name, own, filed):
     negative = copy.deepcopy(own)
     negative["resources"][1]["regulating_price"] = -700
     says("negative price", command("write-case", write("negative.json", json.dumps(negative)), "negative.case"), 1, "refused",
-         r"resources\[1\]\.regulating_price", "Park City", "-700", "sign|negative")
+         r"resources\[1\]\.regulating_price", "Park City", "-700", "Is its sign the wrong way round")
     check("nothing is written of a refused source", not (HOME / "negative.case").exists())
 
     def above(read):
@@ -294,7 +297,7 @@ def damages(source_name, own, filed):
 
 def machine_faults():
     says("no such file", command("explain", "none.case", CERT), 2, "none.case")
-    says("a directory for a file", command("cite", CASE, "target"), 2, "target")
+    says("a directory for a file", command("cite", CASE, "target"), 2, "'target': Is a directory")
     says("no arguments", command("cite"), 2, "cite")
     says("no such command", command("verify", CASE, CERT), 2, "verify", "write-case", "explain")
     says("a solver without a case", run(SOLVE, "none.case", "-o", "none.cert"), 2, "none.case")
@@ -323,7 +326,7 @@ def progress():
     os.close(master)
     out = ran.communicate(timeout=30)[0]
     check("on a terminal the solver's work is shown",
-          b"glpsol solves relaxed.mps: 0 s" in shown and b"whole.mps: 0 s of at most 20" in shown, shown)
+          re.search(rb"glpsol solves relaxed\.mps: \d+ s", shown) and re.search(rb"whole\.mps: \d+ s of at most 20\b", shown), shown)
     check("its line is gone at the end", shown.endswith(b"\r\x1b[K"), shown)
     check("it answers the same", ran.returncode == 0 and out.decode() == quiet.stdout, out)
 
@@ -370,7 +373,8 @@ def lines():
         low, high = flowgates._ends(plain, demand, maxima)
         worse += made.above + made.below > float(high - low) + close / float(min(scale, 1)) + 1 / made.scale
     check("no line is filed with more error than by plain rounding", worse == 0, worse)
-    check("the text of flowgates.py shows what it does", doctest.testmod(flowgates) == (0, 4), doctest.testmod(flowgates))
+    found = doctest.testmod(flowgates)
+    check("the text of flowgates.py shows what it does", found.failed == 0 and found.attempted > 0, found)
 
     line = json.loads((TOP / "examples/five_bus/line.json").read_text())
     forward, back = (json.loads(command("flowgate", "line.json", "--json", *more).stdout) for more in ([], ["--reverse"]))
