@@ -14,11 +14,11 @@ ghost use Rattle.market.specs.Certificate.{certificateHeadSize, zonePricesSize,
 ghost use Rattle.market.specs.Records.{countsIn};
 ghost use Rattle.market.specs.Refusals.{firstOf};
 ghost use Rattle.market.specs.Rows.{rows};
-ghost use Rattle.market.specs.Outcome.{priceRight};
+ghost use Rattle.market.specs.Outcome.{formGrounds, priceRight};
 ghost use Rattle.wire.specs.Within.{Within};
 ghost use Rattle.case_check.specs.Stages.{stageOf};
 ghost use Rattle.certificate_records.specs.CertificateBytes.{CertificateBytes};
-ghost use Rattle.certificate_form.specs.Form.{formGrounds, countsAre, sizeIs};
+ghost use Rattle.certificate_form.specs.Form.{countsAre, sizeIs};
 ghost use Rattle.certificate_form.specs.PricePlaces.{zonePriced, limitsPriced};
 
 // ---- 8 to 11: the file's form
@@ -44,7 +44,7 @@ pub fn size_right(q: &[u8], n: Counts) -> bool
 
 pub fn form(q: &[u8], n: Counts) -> Stage
     requires { ⌜ CountsWithin (n .resources) (n .zones) (n .flowgates) ⌝ }
-    ensures { λ r. ⌜ ((c : Case) → n ≡ countsIn c → r ≡ stageOf n (firstOf (formGrounds c (now (q .entry))))) ⌝ }
+    ensures { λ r. ⌜ ((c : Case) → n ≡ countsIn c → r ≡ stageOf n (firstOf (formGrounds c (now (q .entry)) (certificateOf (now (q .entry)))))) ⌝ }
 {
     if !case_check::length_right(q, CERTIFICATE_HEAD_SIZE) {
         return Stage::Refused(Refusal::CertificateLength);

@@ -16,18 +16,18 @@ use Rattle.market.specs.Bound.{rowValue, netPrice, lowest, bound}
 use Rattle.market.specs.Charges.{rowCharge, pricedCharge, charges}
 use Rattle.market.specs.Prices.{LMP, zoneSupplementalPrice, zoneSpinningPrice, zoneRegulatingPrice, zoneShortTermPrice, priceList}
 use Rattle.market.specs.Refusals.{firstFailing, firstOf}
-use Rattle.market.specs.Outcome.{caseGrounds, caseAnswer, sameCounts, certificateGrounds, valued, valuation, outcome, priceGrounds, chargeGrounds, priceAnswer, chargeAnswer}
+use Rattle.market.specs.Outcome.{caseGrounds, caseAnswer, sameCounts, formGrounds, certificateGrounds, valued, valuation, outcome, priceGrounds, chargeGrounds, priceAnswer, chargeAnswer}
 use Rattle.market.specs.Numbers.{fieldAt, fieldBytes, numbersAt, bytesOf, numbersFit, times, caseFields, certificateFields, fileOf, numbersOf, certificateFileGrounds, readCaseGrounds, readCertificateGrounds, readCase, readCertificate, countsInRange, fieldsFor, fileFor, listGrounds, writeCaseGrounds, writeCertificateGrounds, writeCase, writeCertificate}
 use Rattle.market.specs.Program.{digitsOn, decimal, spaced, resourceLine, zoneLine, refusalLine, report, printed}
 use Rattle.market.specs.Interval.{K, Q}
 use Rattle.market.specs.Worked.{intervals, refusals, orders, same, AsSaid}
 
 pub worked : AsSaid intervals
-unfolding minℤ sumOf upto all across widthOf caseOf resourceAt lengthRight versionRight countsRight caseSizeRight reserveInRange resourceInRange flowgateInRange fieldsInRange stepsFollow stepsRight energyStepsRight stepsRule pairsOrdered limitsOrdered onLine MAX MIN HI LO quantities RAMP SHARE onLineBound serviceBound upperBound rows none one minusOne entries spins inReserve inLimit coefficient rightSide leftSide slack amountAt priceAt certificateOf priced quantityOf servicePrice offer pricedUpperBound filled part cost rowValue netPrice lowest bound LMP zoneSupplementalPrice zoneSpinningPrice zoneRegulatingPrice zoneShortTermPrice firstFailing firstOf caseGrounds sameCounts certificateGrounds valuation outcome digitsOn decimal spaced resourceLine zoneLine refusalLine report printed same
+unfolding minℤ sumOf upto all across widthOf caseOf resourceAt lengthRight versionRight countsRight caseSizeRight reserveInRange resourceInRange flowgateInRange fieldsInRange stepsFollow stepsRight energyStepsRight stepsRule pairsOrdered limitsOrdered onLine MAX MIN HI LO quantities RAMP SHARE onLineBound serviceBound upperBound rows none one minusOne entries spins inReserve inLimit coefficient rightSide leftSide slack amountAt priceAt certificateOf priced quantityOf servicePrice offer pricedUpperBound filled part cost rowValue netPrice lowest bound LMP zoneSupplementalPrice zoneSpinningPrice zoneRegulatingPrice zoneShortTermPrice firstFailing firstOf caseGrounds sameCounts formGrounds certificateGrounds valuation outcome digitsOn decimal spaced resourceLine zoneLine refusalLine report printed same
 worked = tt
 
 pub each-refusal : AsSaid refusals
-unfolding minℤ sumOf totalOf upto all across widthOf caseOf resourceAt lengthRight versionRight countsRight caseSizeRight reserveInRange resourceInRange flowgateInRange fieldsInRange stepsFollow stepsRight energyStepsRight stepsRule pairsOrdered limitsOrdered onLine MAX MIN HI LO quantities RAMP SHARE onLineBound serviceBound upperBound rows none one minusOne entries spins inReserve inLimit coefficient rightSide leftSide slack amountAt priceAt certificateOf priced quantityOf servicePrice offer pricedUpperBound filled part cost rowValue netPrice lowest bound LMP zoneSupplementalPrice zoneSpinningPrice zoneRegulatingPrice zoneShortTermPrice firstFailing firstOf caseGrounds caseAnswer sameCounts certificateGrounds valuation outcome priceGrounds chargeGrounds priceAnswer chargeAnswer fieldAt fieldBytes numbersAt bytesOf numbersFit times caseFields certificateFields fileOf numbersOf certificateFileGrounds readCaseGrounds readCertificateGrounds readCase readCertificate countsInRange fieldsFor fileFor listGrounds writeCaseGrounds writeCertificateGrounds writeCase writeCertificate digitsOn decimal spaced resourceLine zoneLine refusalLine report printed same
+unfolding minℤ sumOf totalOf upto all across widthOf caseOf resourceAt lengthRight versionRight countsRight caseSizeRight reserveInRange resourceInRange flowgateInRange fieldsInRange stepsFollow stepsRight energyStepsRight stepsRule pairsOrdered limitsOrdered onLine MAX MIN HI LO quantities RAMP SHARE onLineBound serviceBound upperBound rows none one minusOne entries spins inReserve inLimit coefficient rightSide leftSide slack amountAt priceAt certificateOf priced quantityOf servicePrice offer pricedUpperBound filled part cost rowValue netPrice lowest bound LMP zoneSupplementalPrice zoneSpinningPrice zoneRegulatingPrice zoneShortTermPrice firstFailing firstOf caseGrounds caseAnswer sameCounts formGrounds certificateGrounds valuation outcome priceGrounds chargeGrounds priceAnswer chargeAnswer fieldAt fieldBytes numbersAt bytesOf numbersFit times caseFields certificateFields fileOf numbersOf certificateFileGrounds readCaseGrounds readCertificateGrounds readCase readCertificate countsInRange fieldsFor fileFor listGrounds writeCaseGrounds writeCertificateGrounds writeCase writeCertificate digitsOn decimal spaced resourceLine zoneLine refusalLine report printed same
 each-refusal = tt
 
 pub in-order : AsSaid orders
@@ -36,5 +36,5 @@ in-order = tt
 
 -- so what is shown of accepted certificates is not shown of none
 pub K-accepted : outcome K Q ≡ Accepted (valued (pos 140000000000) (pos 140000000000) (pos 0))
-unfolding minℤ sumOf upto all across widthOf caseOf resourceAt lengthRight versionRight countsRight caseSizeRight reserveInRange resourceInRange flowgateInRange fieldsInRange stepsFollow stepsRight energyStepsRight stepsRule pairsOrdered limitsOrdered onLine MAX MIN HI LO quantities RAMP SHARE onLineBound serviceBound upperBound rows none one minusOne entries spins inReserve inLimit coefficient rightSide leftSide slack amountAt priceAt certificateOf priced quantityOf servicePrice offer pricedUpperBound filled part cost rowValue netPrice lowest bound firstFailing firstOf caseGrounds sameCounts certificateGrounds valuation outcome
+unfolding minℤ sumOf upto all across widthOf caseOf resourceAt lengthRight versionRight countsRight caseSizeRight reserveInRange resourceInRange flowgateInRange fieldsInRange stepsFollow stepsRight energyStepsRight stepsRule pairsOrdered limitsOrdered onLine MAX MIN HI LO quantities RAMP SHARE onLineBound serviceBound upperBound rows none one minusOne entries spins inReserve inLimit coefficient rightSide leftSide slack amountAt priceAt certificateOf priced quantityOf servicePrice offer pricedUpperBound filled part cost rowValue netPrice lowest bound firstFailing firstOf caseGrounds sameCounts formGrounds certificateGrounds valuation outcome
 K-accepted = refl

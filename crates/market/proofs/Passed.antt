@@ -1,8 +1,8 @@
 -- Grounds as tests, and what has passed where none of them holds, test by test: proofs take a test by its name, and only this
 -- file knows at which place of its list a ground stands.
 use mathlib.Core.Bool.{Bool}
-use mathlib.Core.List.{List, [], _∷_}
-use mathlib.Core.Path.{_≡_}
+use mathlib.Core.List.{List, [], _∷_, _++_}
+use mathlib.Core.Path.{_≡_, refl}
 use Prim.Native.Nat.{ℕ}
 use lib.Dec.{T, leb, eqb}
 use lib.IntN.{ℤ}
@@ -10,15 +10,14 @@ use lib.ListN.{length}
 use Rattle.arith.specs.Sums.{Each, all}
 use Rattle.arith.proofs.Lists.{each-split}
 use Rattle.market.specs.declared.Refusal.{Refusal}
-use Rattle.market.specs.declared.Refusal.the-variants.{CaseLength, CaseVersion, Counts, CaseSize, FieldRange, StepRule, LimitPair, CertificateLength, CertificateVersion, CountsDiffer, CertificateSize, PriceRange, AboveBound, RowBroken, NumberList}
+use Rattle.market.specs.declared.Refusal.the-variants.{CaseLength, CaseVersion, Counts, CaseSize, FieldRange, StepRule, LimitPair, CertificateLength, CertificateVersion, CountsDiffer, CertificateSize, PriceRange, NumberList}
 use Rattle.market.specs.Case.{Case}
 use Rattle.market.specs.CaseFile.{leastCaseSize, caseOf}
 use Rattle.market.specs.CaseCheck.{lengthRight, versionRight, countsRight, caseSizeRight, fieldsInRange, stepsRule, limitsOrdered}
-use Rattle.market.specs.UpperBounds.{quantities}
 use Rattle.market.specs.Rows.{rows}
-use Rattle.market.specs.Certificate.{Certificate, leastCertificateSize, certificateSize}
-use Rattle.market.specs.Refusals.{Finding, clear, unless, firstFailing, AllClear}
-use Rattle.market.specs.Outcome.{Valid, caseGrounds, certificateGrounds, sameCounts, priceRight, withinBound, rowMet}
+use Rattle.market.specs.Certificate.{Certificate, certificateOf, leastCertificateSize, certificateSize}
+use Rattle.market.specs.Refusals.{Finding, clear, unless, AllClear}
+use Rattle.market.specs.Outcome.{Valid, caseGrounds, certificateGrounds, sameCounts, priceRight, formGrounds, priceGround, boundGround, rowGround, grounds, groundsTo11, groundsTo12, groundsTo13}
 use Rattle.market.specs.Numbers.{FieldsOf, fieldsFor, numbersFit, countsInRange, listGrounds}
 use Rattle.market.proofs.Grounds.{unless-clear, clear-unless}
 
@@ -89,38 +88,42 @@ pub record FormPassed (c : Case) (q : List ℕ) (k : Certificate) : Type 0 where
   pub same-counts : T (sameCounts c k)
   pub size-right : T (eqb (length q) (certificateSize (c .resources) (c .zones) (c .flowgates)))
 
-pub form-passed : (c : Case) (q : List ℕ) (k : Certificate) → AllClear (findings (formTests c q k)) → FormPassed c q k
+pub form-passed : (c : Case) (q : List ℕ) (k : Certificate) → AllClear (formGrounds c q k) → FormPassed c q k
+unfolding formGrounds
 form-passed c q k h = named (tests-pass (formTests c q k) h)
   where
     named : AllPass (formTests c q k) → FormPassed c q k
     named (long, (version, (counts, (size, none)))) = record { length-right = long; version-right = version; same-counts = counts; size-right = size }
 
--- 12, 13 and 14
+-- 12
 abbrev pub priceTest : Case → Certificate → Test
 priceTest c k = test (all (priceRight k) (rows c)) PriceRange
-
-abbrev pub amountGround : Case → Certificate → Finding
-amountGround c k = firstFailing (withinBound c k) AboveBound 1 (quantities c)
-
-abbrev pub rowGround : Case → Certificate → Finding
-rowGround c k = firstFailing (rowMet c k) RowBroken 1 (rows c)
-
-abbrev groundsFrom12 : Case → Certificate → List Finding
-groundsFrom12 c k = unless (all (priceRight k) (rows c)) PriceRange ∷ amountGround c k ∷ rowGround c k ∷ []
 
 pub record CertificatePassed (c : Case) (q : List ℕ) (k : Certificate) : Type 0 where
   pub form : FormPassed c q k
   pub prices-right : T (all (priceRight k) (rows c))
-  pub amounts-within : amountGround c k ≡ clear
+  pub amounts-within : boundGround c k ≡ clear
   pub rows-met : rowGround c k ≡ clear
 
 pub certificate-passed : (c : Case) (q : List ℕ) (k : Certificate) → AllClear (certificateGrounds c q k) → CertificatePassed c q k
 unfolding certificateGrounds
-certificate-passed c q k h = named (each-split (λ g. g ≡ clear) (findings (formTests c q k)) (groundsFrom12 c k) h)
+certificate-passed c q k h = named (each-split (λ g. g ≡ clear) (formGrounds c q k) (priceGround c k ∷ boundGround c k ∷ rowGround c k ∷ []) h)
   where
-    named : AllClear (findings (formTests c q k)) × AllClear (groundsFrom12 c k) → CertificatePassed c q k
+    named : AllClear (formGrounds c q k) × AllClear (priceGround c k ∷ boundGround c k ∷ rowGround c k ∷ []) → CertificatePassed c q k
     named (form, (prices, (amounts, (met, none)))) =
         record { form = form-passed c q k form; prices-right = unless-clear (all (priceRight k) (rows c)) PriceRange prices; amounts-within = amounts; rows-met = met }
+
+-- ---- a case and a certificate: 14 comes last, and the tests up to 12
+pub grounds-are : (b q : List ℕ) → grounds b q ≡ groundsTo13 b q ++ (rowGround (caseOf b) (certificateOf q) ∷ [])
+unfolding caseGrounds formGrounds certificateGrounds groundsTo11 groundsTo12 groundsTo13
+grounds-are b q = refl
+
+abbrev pub testsTo12 : List ℕ → List ℕ → List Test
+testsTo12 b q = caseTests b ++ (formTests (caseOf b) q (certificateOf q) ++ (priceTest (caseOf b) (certificateOf q) ∷ []))
+
+pub tests-to-12 : (b q : List ℕ) → groundsTo12 b q ≡ findings (testsTo12 b q)
+unfolding caseGrounds formGrounds groundsTo11 groundsTo12
+tests-to-12 b q = refl
 
 -- ---- a list of numbers to be written: 16, 3, 16
 abbrev pub listTests : FieldsOf → List ℤ → List Test

@@ -19,7 +19,7 @@ use Rattle.market.specs.UpperBounds.{quantities}
 use Rattle.market.specs.Rows.{rows}
 use Rattle.market.specs.Certificate.{Certificate, certificateOf}
 use Rattle.market.specs.Refusals.{Finding, clear, holds, unless, placeOf, firstOf, FirstHolds, outcomeOf}
-use Rattle.market.specs.Outcome.{Valid, caseGrounds, certificateGrounds, grounds, valuation, outcome}
+use Rattle.market.specs.Outcome.{Valid, caseGrounds, formGrounds, certificateGrounds, grounds, valuation, outcome}
 use Rattle.market.specs.Program.{caseIn, certificateIn, mostInput, inputGround, programGrounds, refusalLine, report, printed, printedOf}
 use Rattle.market.specs.RefusedExactly.{Exactly, FirstAt, PlacesExactly, acceptedText}
 use Rattle.market.proofs.Grounds.{none-holds, all-clear, first-holds, holds-first}
@@ -40,13 +40,13 @@ module _ (b q : List ℕ) where
   counted v = count-ranges (caseOf b) (case-passed b v .counts-right)
 
   bound-place : (p : ℕ) → FirstHolds (grounds b q) (AboveBound p) → p < twentyDigits
-  unfolding all caseGrounds certificateGrounds
+  unfolding all caseGrounds formGrounds certificateGrounds
   bound-place p h =
       let t = above-bound-at b q [] tt tt p .0 h in
       omega (arith, at-most (quantities (caseOf b)) p (t .first-above), quantity-count (caseOf b), counted (above-valid b q p t) .most-resources)
 
   row-place : (p : ℕ) → FirstHolds (grounds b q) (RowBroken p) → p < twentyDigits
-  unfolding all caseGrounds certificateGrounds
+  unfolding all caseGrounds formGrounds certificateGrounds
   row-place p h =
       let t = row-broken-at b q [] tt tt p .0 h in
       let n = counted (broken-valid b q p t) in
@@ -124,5 +124,5 @@ module _ (input : List ℕ) where
   past-input l = ap (λ (t : Bool). firstOf (unless t InputLength ∷ grounds b q)) (le-leb (length input) mostInput l)
 
   pub program-placed : length input ≤ mostInput → PlacesExactly b q (printed input) refusalLine
-  unfolding all caseGrounds certificateGrounds
+  unfolding all caseGrounds formGrounds certificateGrounds
   program-placed l = places b q [] tt tt (λ r. Iff·trans (program-exactly .refused-exactly r) (same-first (programGrounds input) (grounds b q) (past-input l) r))

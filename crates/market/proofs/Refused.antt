@@ -20,7 +20,7 @@ use Rattle.market.specs.Certificate.{certificateOf}
 use Rattle.market.specs.Charges.{chargeCount}
 use Rattle.market.specs.Prices.{priceCount}
 use Rattle.market.specs.Refusals.{Finding, clear, holds, firstOf, caseAnswerOf, outcomeOf, deliveryOf, transferOf}
-use Rattle.market.specs.Outcome.{caseGrounds, caseAnswer, certificateGrounds, grounds, valuation, outcome, priceGrounds, priceAnswer, chargeGrounds, chargeAnswer}
+use Rattle.market.specs.Outcome.{caseGrounds, caseAnswer, formGrounds, certificateGrounds, grounds, valuation, outcome, priceGrounds, priceAnswer, chargeGrounds, chargeAnswer}
 use Rattle.market.specs.Numbers.{caseNumbers, certificateNumbers, caseFile, certificateFile, readCaseGrounds, readCase, readCertificateGrounds, readCertificate, writeCaseGrounds, writeCase, writeCertificateGrounds, writeCertificate}
 use Rattle.market.specs.RefusedExactly.{Exactly, PlacesExactly, RefusedExactly}
 use Rattle.market.proofs.Grounds.{none-holds, all-clear, first-holds, holds-first}
@@ -91,7 +91,7 @@ unfolding outcome
 certificate-exactly b q = let v = valuation (caseOf b) (certificateOf q) in exactly (outcomeOf v) in-outcome (of-outcome v) (grounds b q)
 
 certificate-placed : (b q : List ℕ) → PlacesExactly b q (outcome b q) O.Refused
-unfolding all caseGrounds certificateGrounds
+unfolding all caseGrounds formGrounds certificateGrounds
 certificate-placed b q = places b q [] tt tt (certificate-exactly b q .refused-exactly)
 
 price-exactly : (b q : List ℕ) (n : ℕ) → Exactly (priceGrounds b q n) (priceAnswer b q n) D.Refused D.Delivered

@@ -16,10 +16,10 @@ use Rattle.market.specs.UpperBounds.{quantities}
 use Rattle.market.specs.Rows.{rows}
 use Rattle.market.specs.Certificate.{Certificate, certificateOf}
 use Rattle.market.specs.Refusals.{Finding, clear, holds, unless, numberOf, firstFailing, firstOf, FirstHolds, AllClear}
-use Rattle.market.specs.Outcome.{Valid, caseGrounds, certificateGrounds, grounds, withinBound, rowMet}
+use Rattle.market.specs.Outcome.{Valid, caseGrounds, formGrounds, priceGround, boundGround, rowGround, certificateGrounds, grounds, groundsTo11, groundsTo12, groundsTo13, withinBound, rowMet}
 use Rattle.market.specs.RefusedExactly.{AboveBoundAt, RowBrokenAt, PlacesExactly}
 use Rattle.market.proofs.Grounds.{not-clear, holds-first}
-use Rattle.market.proofs.Passed.{Test, findings, caseTests, formTests, priceTest, amountGround, rowGround}
+use Rattle.market.proofs.Passed.{Test, findings, testsTo12, tests-to-12}
 use Rattle.market.proofs.FirstAt.{first-failing-at, bounds-tested, rows-tested}
 
 -- ---- grounds that do not refuse by number n
@@ -92,36 +92,36 @@ module _ (b q : List ℕ) where
   abbrev k : Certificate
   k = certificateOf q
 
-  -- 8 to 12, and all from 1 on
-  abbrev testsFrom8 : List Test
-  testsFrom8 = formTests c q k ++ (priceTest c k ∷ [])
+  -- past 1 to 12 the case is valid
+  valid-to-12 : AllClear (groundsTo12 b q) → Valid b
+  unfolding groundsTo11 groundsTo12
+  valid-to-12 h = each-split (λ g. g ≡ clear) (caseGrounds b) (formGrounds c q k) (each-split (λ g. g ≡ clear) (groundsTo11 b q) (priceGround c k ∷ []) h .0) .0
 
-  abbrev tests : List Test
-  tests = caseTests b ++ testsFrom8
-
-  -- past them the case is valid
   pub above-valid : (p : ℕ) → AboveBoundAt b q p → Valid b
-  unfolding caseGrounds certificateGrounds
-  above-valid p h = each-split (λ g. g ≡ clear) (caseGrounds b) (findings testsFrom8) (h .none-earlier) .0
+  above-valid p h = valid-to-12 (h .none-earlier)
 
   pub broken-valid : (p : ℕ) → RowBrokenAt b q p → Valid b
-  unfolding caseGrounds certificateGrounds
-  broken-valid p h = each-split (λ g. g ≡ clear) (caseGrounds b) (findings testsFrom8 ++ (amountGround c k ∷ [])) (h .none-earlier) .0
+  unfolding groundsTo13
+  broken-valid p h = valid-to-12 (each-split (λ g. g ≡ clear) (groundsTo12 b q) (boundGround c k ∷ []) (h .none-earlier) .0)
+
+  -- where no test up to 12 refuses by this number, no ground does
+  others-to-12 : (n : ℕ) → T (otherTests n (testsTo12 b q)) → Each (Other n) (groundsTo12 b q)
+  others-to-12 n h = rw (tests-to-12 b q) (others n (testsTo12 b q) h)
 
   -- and tests after 14
   module _ (later : List Test) (not-13 : T (otherTests 13 later)) (not-14 : T (otherTests 14 later)) where
     pub above-bound-at : (p : ℕ) → FirstHolds (grounds b q ++ findings later) (AboveBound p) ↔ AboveBoundAt b q p
-    unfolding all otherNumber caseGrounds certificateGrounds
+    unfolding all otherNumber caseGrounds formGrounds certificateGrounds groundsTo11 groundsTo12
     above-bound-at p =
-        let this = only-this (AboveBound p) (findings tests) (amountGround c k) (rowGround c k ∷ findings later) (others 13 tests tt) (other-failing 13 (rowMet c k) RowBroken (λ n. tt) 1 (rows c), others 13 later not-13) in
+        let this = only-this (AboveBound p) (groundsTo12 b q) (boundGround c k) (rowGround c k ∷ findings later) (others-to-12 13 tt) (other-failing 13 (rowMet c k) RowBroken (λ n. tt) 1 (rows c), others 13 later not-13) in
         let at = first-failing-at (bounds-tested c k) AboveBound (λ m n e. cc) 1 p (quantities c) in
         ((λ h. let t = this .0 h in record { none-earlier = t .0; first-above = at .0 (t .1) }), (λ h. this .1 (h .none-earlier, at .1 (h .first-above))))
 
     pub row-broken-at : (p : ℕ) → FirstHolds (grounds b q ++ findings later) (RowBroken p) ↔ RowBrokenAt b q p
-    unfolding all otherNumber caseGrounds certificateGrounds
+    unfolding all otherNumber caseGrounds formGrounds certificateGrounds groundsTo11 groundsTo12 groundsTo13
     row-broken-at p =
-        let before = each-join (Other 14) (findings tests) (amountGround c k ∷ []) (others 14 tests tt) (other-failing 14 (withinBound c k) AboveBound (λ n. tt) 1 (quantities c), tt) in
-        let this = only-this (RowBroken p) (findings tests ++ (amountGround c k ∷ [])) (rowGround c k) (findings later) before (others 14 later not-14) in
+        let before = each-join (Other 14) (groundsTo12 b q) (boundGround c k ∷ []) (others-to-12 14 tt) (other-failing 14 (withinBound c k) AboveBound (λ n. tt) 1 (quantities c), tt) in
+        let this = only-this (RowBroken p) (groundsTo13 b q) (rowGround c k) (findings later) before (others 14 later not-14) in
         let at = first-failing-at (rows-tested c k) RowBroken (λ m n e. cc) 1 p (rows c) in
         ((λ h. let t = this .0 h in record { none-earlier = t .0; first-broken = at .0 (t .1) }), (λ h. this .1 (h .none-earlier, at .1 (h .first-broken))))
 

@@ -61,19 +61,42 @@ meets atLeast v = leZ (pos 0) v
 abbrev pub rowMet : Case → Certificate → Row → Bool
 rowMet c d row = meets (sense row) (slack c (d .amount) row)
 
-unfoldable pub certificateGrounds : Case → List ℕ → Certificate → List Finding
-certificateGrounds c q d =
+-- 8 to 11, its form
+unfoldable pub formGrounds : Case → List ℕ → Certificate → List Finding
+formGrounds c q d =
     unless (lengthRight leastCertificateSize q) CertificateLength
     ∷ unless (versionRight q) CertificateVersion
     ∷ unless (sameCounts c d) CountsDiffer
     ∷ unless (eqb (length q) (certificateSize (c .resources) (c .zones) (c .flowgates))) CertificateSize
-    ∷ unless (all (priceRight d) (rows c)) PriceRange
-    ∷ firstFailing (withinBound c d) AboveBound 1 (quantities c)
-    ∷ firstFailing (rowMet c d) RowBroken 1 (rows c)
     ∷ []
+
+-- 12
+abbrev pub priceGround : Case → Certificate → Finding
+priceGround c d = unless (all (priceRight d) (rows c)) PriceRange
+
+-- 13
+abbrev pub boundGround : Case → Certificate → Finding
+boundGround c d = firstFailing (withinBound c d) AboveBound 1 (quantities c)
+
+-- 14
+abbrev pub rowGround : Case → Certificate → Finding
+rowGround c d = firstFailing (rowMet c d) RowBroken 1 (rows c)
+
+unfoldable pub certificateGrounds : Case → List ℕ → Certificate → List Finding
+certificateGrounds c q d = formGrounds c q d ++ (priceGround c d ∷ boundGround c d ∷ rowGround c d ∷ [])
 
 abbrev pub grounds : List ℕ → List ℕ → List Finding
 grounds b q = caseGrounds b ++ certificateGrounds (caseOf b) q (certificateOf q)
+
+-- those before 12, before 13 and before 14
+unfoldable pub groundsTo11 : List ℕ → List ℕ → List Finding
+groundsTo11 b q = caseGrounds b ++ formGrounds (caseOf b) q (certificateOf q)
+
+unfoldable pub groundsTo12 : List ℕ → List ℕ → List Finding
+groundsTo12 b q = groundsTo11 b q ++ (priceGround (caseOf b) (certificateOf q) ∷ [])
+
+unfoldable pub groundsTo13 : List ℕ → List ℕ → List Finding
+groundsTo13 b q = groundsTo12 b q ++ (boundGround (caseOf b) (certificateOf q) ∷ [])
 
 abbrev pub valued : ℤ → ℤ → ℤ → Valuation
 valued cost bound gap = record { cost = record { 0 = cost }; bound = record { 0 = bound }; gap = record { 0 = gap } }

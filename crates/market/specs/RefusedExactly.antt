@@ -6,7 +6,7 @@ use mathlib.Core.Logic.{_↔_}
 use mathlib.Core.Path.{_≡_}
 use Prim.Native.Nat.{ℕ, _+_, _<_, _≤_}
 use lib.IntN.{ℤ}
-use lib.ListN.{length, take}
+use lib.ListN.{length}
 use Rattle.arith.specs.Sums.{Each}
 use Rattle.market.specs.declared.Refusal.{Refusal}
 use Rattle.market.specs.declared.Refusal.the-variants.{AboveBound, RowBroken}
@@ -20,7 +20,7 @@ use Rattle.market.specs.UpperBounds.{Quantity, quantities, Schedule, upp
 use Rattle.market.specs.Rows.{Row, rows, sense, slack, Meets}
 use Rattle.market.specs.Certificate.{certificateOf}
 use Rattle.market.specs.Refusals.{Finding, FirstHolds, AllClear}
-use Rattle.market.specs.Outcome.{caseGrounds, caseAnswer, grounds, valuation, outcome, priceGrounds, priceAnswer, chargeGrounds, chargeAnswer}
+use Rattle.market.specs.Outcome.{caseGrounds, caseAnswer, grounds, groundsTo12, groundsTo13, valuation, outcome, priceGrounds, priceAnswer, chargeGrounds, chargeAnswer}
 use Rattle.market.specs.Numbers.{caseNumbers, certificateNumbers, caseFile, certificateFile, readCaseGrounds, readCase, readCertificateGrounds, readCertificate, writeCaseGrounds, writeCase, writeCertificateGrounds, writeCertificate}
 use Rattle.market.specs.Program.{caseIn, certificateIn, mostInput, programGrounds, refusalLine, report, printed}
 
@@ -58,12 +58,12 @@ IsBroken c x row = ¬ (IsMet c x row)
 
 -- none of 1 to 12 holds, and the quantity at the place (cleared 1 to 4, then five per resource) is the first above its bound
 pub record AboveBoundAt (b q : List ℕ) (at : ℕ) : Type 0 where
-  pub none-earlier : AllClear (take 12 (grounds b q))
+  pub none-earlier : AllClear (groundsTo12 b q)
   pub first-above : FirstAt (AboveItsBound (caseOf b) (certificateOf q .amount)) (WithinItsBound (caseOf b) (certificateOf q .amount)) 1 (quantities (caseOf b)) at
 
 -- none of 1 to 13 holds, and the row at the place is the first that is broken
 pub record RowBrokenAt (b q : List ℕ) (at : ℕ) : Type 0 where
-  pub none-earlier : AllClear (take 13 (grounds b q))
+  pub none-earlier : AllClear (groundsTo13 b q)
   pub first-broken : FirstAt (IsBroken (caseOf b) (certificateOf q .amount)) (IsMet (caseOf b) (certificateOf q .amount)) 1 (rows (caseOf b)) at
 
 -- of a case and a certificate

@@ -14,15 +14,15 @@ use Rattle.market.specs.declared.Outcome.{Outcome}
 use Rattle.market.specs.declared.Valuation.{Valuation}
 use Rattle.market.specs.declared.Outcome.the-variants as O
 use Rattle.market.specs.CaseFile.{caseOf}
-use Rattle.market.specs.Rows.{rows}
 use Rattle.market.specs.Certificate.{certificateOf}
 use Rattle.market.specs.Cost.{cost}
 use Rattle.market.specs.Bound.{bound}
 use Rattle.market.specs.Records.{countsIn}
-use Rattle.market.specs.Refusals.{Finding, clear, firstOf, firstFailing, foundAt}
+use Rattle.market.specs.Refusals.{clear, firstOf, foundAt}
 use Rattle.market.specs.Fits.{Fits64}
-use Rattle.market.specs.Outcome.{grounds, rowMet, valuation, outcome}
+use Rattle.market.specs.Outcome.{rowGround, grounds, groundsTo13, valuation, outcome}
 use Rattle.market.proofs.Grounds.{none-holds, all-clear}
+use Rattle.market.proofs.Passed.{grounds-are}
 use Rattle.market.proofs.Accepted.{accepted-is, demand3}
 use Rattle.market.proofs.LentBuffer.{first-then, first-stays}
 use Rattle.market.proofs.Ranges.{valid-ranges, price-ranges}
@@ -35,31 +35,27 @@ use Rattle.case_check.specs.Stages.{stageOf}
 use Rattle.case_check.proofs.Passing.{passed-clear, refused-holds}
 use Rattle.prices.specs.Standing.{Standing}
 use Rattle.units.specs.Room.{SumRoom}
-use Rattle.quantities.specs.Grounds13.{groundsTo13}
-use Rattle.quantities.proofs.Passing.{grounds-are, standing}
+use Rattle.quantities.proofs.Passing.{standing}
 use Rattle.outcomes.specs.Checked.{AcceptedWith, outcomeAfter, Checked}
 
 -- ---- one ground more than 1 to 13
-abbrev rowGround : List ℕ → List ℕ → Finding
-rowGround b q = firstFailing (rowMet (caseOf b) (certificateOf q)) R.RowBroken 1 (rows (caseOf b))
-
 module _ (b q : List ℕ) where
   abbrev Stands13 : Counts → Type 0
   Stands13 n = stageOf (countsIn (caseOf b)) (firstOf (groundsTo13 b q)) ≡ Passed n
 
   -- refused before the rows
   pub rows-not-reached : (w : Refusal) → stageOf (countsIn (caseOf b)) (firstOf (groundsTo13 b q)) ≡ Refused w → Refused w ≡ stageOf (countsIn (caseOf b)) (firstOf (grounds b q))
-  rows-not-reached w h = rw (grounds-are b q, first-stays (groundsTo13 b q) (rowGround b q) w (refused-holds (countsIn (caseOf b)) w (firstOf (groundsTo13 b q)) h))
+  rows-not-reached w h = rw (grounds-are b q, first-stays (groundsTo13 b q) (rowGround (caseOf b) (certificateOf q)) w (refused-holds (countsIn (caseOf b)) w (firstOf (groundsTo13 b q)) h))
 
   -- a row is broken
-  pub row-broken : (n : Counts) (found : First) (row : ℕ) → Stands13 n → found ≡ At row → foundAt R.RowBroken found ≡ rowGround b q → Refused (R.RowBroken row) ≡ stageOf (countsIn (caseOf b)) (firstOf (grounds b q))
-  row-broken n found row h a e = rw (grounds-are b q, first-then (groundsTo13 b q) (rowGround b q) (passed-clear (countsIn (caseOf b)) n (firstOf (groundsTo13 b q)) h .0), ← e, a)
+  pub row-broken : (n : Counts) (found : First) (row : ℕ) → Stands13 n → found ≡ At row → foundAt R.RowBroken found ≡ rowGround (caseOf b) (certificateOf q) → Refused (R.RowBroken row) ≡ stageOf (countsIn (caseOf b)) (firstOf (grounds b q))
+  row-broken n found row h a e = rw (grounds-are b q, first-then (groundsTo13 b q) (rowGround (caseOf b) (certificateOf q)) (passed-clear (countsIn (caseOf b)) n (firstOf (groundsTo13 b q)) h .0), ← e, a)
 
   -- none is
-  pub rows-met : (n : Counts) (found : First) → Stands13 n → found ≡ None → foundAt R.RowBroken found ≡ rowGround b q → Passed n ≡ stageOf (countsIn (caseOf b)) (firstOf (grounds b q))
+  pub rows-met : (n : Counts) (found : First) → Stands13 n → found ≡ None → foundAt R.RowBroken found ≡ rowGround (caseOf b) (certificateOf q) → Passed n ≡ stageOf (countsIn (caseOf b)) (firstOf (grounds b q))
   rows-met n found h z e =
       let p = passed-clear (countsIn (caseOf b)) n (firstOf (groundsTo13 b q)) h in
-      rw (grounds-are b q, first-then (groundsTo13 b q) (rowGround b q) (p .0), ← e, z, p .1)
+      rw (grounds-are b q, first-then (groundsTo13 b q) (rowGround (caseOf b) (certificateOf q)) (p .0), ← e, z, p .1)
 
   -- ---- past 1 to 14
   pub accepted-with : (n m : Counts) → stageOf (countsIn (caseOf b)) (firstOf (grounds b q)) ≡ Passed n → m ≡ countsIn (caseOf b) → AcceptedWith b q m
@@ -71,7 +67,7 @@ module _ (b q : List ℕ) where
   pub all-standing : (n : Counts) → AcceptedWith b q n → Standing b q (n .resources) (n .zones) (n .flowgates)
   all-standing n h =
       let each = none-holds (grounds b q) (h .none-holds) in
-      let to13 = each-split (λ g. g ≡ clear) (groundsTo13 b q) (rowGround b q ∷ []) (rw (grounds-are b q) at each) .0 in
+      let to13 = each-split (λ g. g ≡ clear) (groundsTo13 b q) (rowGround (caseOf b) (certificateOf q) ∷ []) (rw (grounds-are b q) at each) .0 in
       rw (h .counts) (standing b q (all-clear (groundsTo13 b q) to13))
 
   -- a case past them has a head

@@ -1,7 +1,7 @@
 -- The stages are the grounds in their order; what is known past 1 to 11, and past 1 to 13.
 -- Later crates take from here that a case and a certificate that have passed stand.
 use mathlib.Core.Path.{_≡_, refl, sym, _∙_, ap, subst}
-use mathlib.Core.List.{List, [], _∷_, _++_, append-assoc}
+use mathlib.Core.List.{List, [], _∷_, _++_}
 use Prim.Native.Nat.{ℕ}
 use Rattle.arith.specs.Sums.{all}
 use Rattle.arith.proofs.Lists.{each-split}
@@ -12,8 +12,8 @@ use Rattle.market.specs.CaseFile.{caseOf}
 use Rattle.market.specs.Certificate.{certificateOf}
 use Rattle.market.specs.Records.{countsIn}
 use Rattle.market.specs.Rows.{rows}
-use Rattle.market.specs.Refusals.{Finding, clear, holds, firstOf, firstFailing, AllClear}
-use Rattle.market.specs.Outcome.{Valid, caseGrounds, certificateGrounds, grounds, priceRight, rowMet}
+use Rattle.market.specs.Refusals.{Finding, clear, holds, firstOf, AllClear}
+use Rattle.market.specs.Outcome.{Valid, caseGrounds, formGrounds, priceGround, boundGround, groundsTo11, groundsTo12, groundsTo13, priceRight}
 use Rattle.market.proofs.Grounds.{none-holds, unless-clear, first-of-append, first-of-one}
 use Rattle.market.proofs.FirstFailing.{orElse}
 use Rattle.market.proofs.Ranges.{valid-ranges, bounded}
@@ -23,10 +23,8 @@ use Rattle.case_check.specs.Stages.{stageOf}
 use Rattle.case_check.proofs.Passing.{not-passed, passed-clear, refused-holds}
 use Rattle.case_records.specs.Places.{CaseBytes}
 use Rattle.case_records.proofs.Places.{valid-bytes}
-use Rattle.certificate_form.specs.Form.{formGrounds}
 use Rattle.certificate_form.proofs.Forms.{form-bytes}
 use Rattle.prices.specs.Standing.{Standing}
-use Rattle.quantities.specs.Grounds13.{priceGround, boundGround, groundsFrom8, groundsTo11, groundsTo13}
 use Rattle.quantities.specs.Filing.{Filing, FiledWith, Filed, Advanced, afterwards}
 
 -- ---- stages and findings
@@ -46,7 +44,7 @@ module _ (b q : List ℕ) where
   unfolding caseOf
   case-bytes v = valid-bytes b v
 
-  filing : Valid b → AllClear (formGrounds (caseOf b) q) → Filing b q (caseOf b .resources) (caseOf b .zones) (caseOf b .flowgates)
+  filing : Valid b → AllClear (formGrounds (caseOf b) q (certificateOf q)) → Filing b q (caseOf b .resources) (caseOf b .zones) (caseOf b .flowgates)
   filing v h = record { case-bytes = case-bytes v; certificate-bytes = form-bytes q (caseOf b) (valid-ranges b v .counts) h; valid = v }
 
   -- the case was refused
@@ -54,43 +52,31 @@ module _ (b q : List ℕ) where
   unfolding groundsTo11
   refused-earlier s w e h =
       let f : firstOf (caseGrounds b) ≡ holds w = refused-holds (countsIn (caseOf b)) w (firstOf (caseGrounds b)) (sym e ∙ h) in
-      (h ∙ rw (first-of-append (caseGrounds b) (formGrounds (caseOf b) q), f), record { known = λ n k. not-passed (sym h ∙ k) })
+      (h ∙ rw (first-of-append (caseGrounds b) (formGrounds (caseOf b) q (certificateOf q)), f), record { known = λ n k. not-passed (sym h ∙ k) })
 
   -- the case was passed with these counts
-  pub form-after : (s : Stage) (n : Counts) → stageOf (countsIn (caseOf b)) (firstOf (caseGrounds b)) ≡ Passed n → s ≡ stageOf n (firstOf (formGrounds (caseOf b) q)) → (s ≡ stageOf (countsIn (caseOf b)) (firstOf (groundsTo11 b q))) × Filed b q s
+  pub form-after : (s : Stage) (n : Counts) → stageOf (countsIn (caseOf b)) (firstOf (caseGrounds b)) ≡ Passed n → s ≡ stageOf n (firstOf (formGrounds (caseOf b) q (certificateOf q))) → (s ≡ stageOf (countsIn (caseOf b)) (firstOf (groundsTo11 b q))) × Filed b q s
   unfolding groundsTo11
   form-after s n h e =
       let p = passed-clear (countsIn (caseOf b)) n (firstOf (caseGrounds b)) h in
       let v : Valid b = none-holds (caseGrounds b) (p .0) in
       let known : (m : Counts) → s ≡ Passed m → FiledWith b q m = λ m k.
-      let t = passed-clear n m (firstOf (formGrounds (caseOf b) q)) (sym e ∙ k) in
+      let t = passed-clear n m (firstOf (formGrounds (caseOf b) q (certificateOf q))) (sym e ∙ k) in
       let same : countsIn (caseOf b) ≡ m = cc in
       record {
         counts = sym same;
-        filing = subst (λ (m : Counts). Filing b q (m .resources) (m .zones) (m .flowgates)) same (filing v (none-holds (formGrounds (caseOf b) q) (t .0)));
+        filing = subst (λ (m : Counts). Filing b q (m .resources) (m .zones) (m .flowgates)) same (filing v (none-holds (formGrounds (caseOf b) q (certificateOf q)) (t .0)));
       }
       in
-      (e ∙ rw (first-of-append (caseGrounds b) (formGrounds (caseOf b) q), p .0, p .1), record { known = known })
+      (e ∙ rw (first-of-append (caseGrounds b) (formGrounds (caseOf b) q (certificateOf q)), p .0, p .1), record { known = known })
 
   -- ---- 1 to 13 are 1 to 11, then 12, then 13
-  abbrev prices : Finding
-  prices = priceGround (caseOf b) (certificateOf q)
-
-  abbrev bounds : Finding
-  bounds = boundGround (caseOf b) (certificateOf q)
-
-  regrouped : (groundsTo11 b q ++ (prices ∷ [])) ++ (bounds ∷ []) ≡ groundsTo13 b q
-  unfolding groundsTo11 groundsTo13 groundsFrom8 formGrounds
-  regrouped =
-      ap (λ (l : List Finding). l ++ (bounds ∷ [])) (append-assoc (caseGrounds b) (formGrounds (caseOf b) q) (prices ∷ []))
-      ∙ append-assoc (caseGrounds b) (formGrounds (caseOf b) q ++ (prices ∷ [])) (bounds ∷ [])
-
   pub stages-are : afterwards (afterwards (stageOf (countsIn (caseOf b)) (firstOf (groundsTo11 b q))) (priceGround (caseOf b) (certificateOf q))) (boundGround (caseOf b) (certificateOf q)) ≡ stageOf (countsIn (caseOf b)) (firstOf (groundsTo13 b q))
+  unfolding groundsTo12 groundsTo13
   stages-are =
       let n = countsIn (caseOf b) in
-      ap (λ (s : Stage). afterwards s bounds) (after-list n (groundsTo11 b q) prices)
-      ∙ after-list n (groundsTo11 b q ++ (prices ∷ [])) bounds
-      ∙ ap (λ (gs : List Finding). stageOf n (firstOf gs)) regrouped
+      ap (λ (s : Stage). afterwards s (boundGround (caseOf b) (certificateOf q))) (after-list n (groundsTo11 b q) (priceGround (caseOf b) (certificateOf q)))
+      ∙ after-list n (groundsTo12 b q) (boundGround (caseOf b) (certificateOf q))
 
 -- ---- one ground more: the answer, and what stays known
 pub kept : {b q : List ℕ} {s : Stage} (g : Finding) {w : Refusal} → Filed b q s → s ≡ Refused w → Advanced b q s g s
@@ -105,22 +91,19 @@ pub passes-on : {b q : List ℕ} {s : Stage} {g : Finding} {n : Counts} → File
 unfolding afterwards
 passes-on {b} {q} {s} {g} {n} f e h = record { answer = rw (e, h); filed = record { known = λ m k. f .known m (e ∙ k) } }
 
--- ---- for the next stage: the rows come last
-pub grounds-are : (b q : List ℕ) → grounds b q ≡ groundsTo13 b q ++ (firstFailing (rowMet (caseOf b) (certificateOf q)) R.RowBroken 1 (rows (caseOf b)) ∷ [])
-unfolding groundsTo13 groundsFrom8 certificateGrounds
-grounds-are b q = sym (append-assoc (caseGrounds b) (groundsFrom8 (caseOf b) q (certificateOf q)) (firstFailing (rowMet (caseOf b) (certificateOf q)) R.RowBroken 1 (rows (caseOf b)) ∷ []))
-
 -- ---- past 1 to 13
 pub standing : (b q : List ℕ) → firstOf (groundsTo13 b q) ≡ clear → Standing b q (caseOf b .resources) (caseOf b .zones) (caseOf b .flowgates)
-unfolding groundsTo13 groundsFrom8 formGrounds
+unfolding groundsTo11 groundsTo12 groundsTo13
 standing b q h =
     let c = caseOf b in
     let k = certificateOf q in
-    let parts = each-split (λ g. g ≡ clear) (caseGrounds b) (groundsFrom8 c q k) (none-holds (groundsTo13 b q) h) in
-    named (parts .0) (each-split (λ g. g ≡ clear) (formGrounds c q) (priceGround c k ∷ boundGround c k ∷ []) (parts .1))
+    let to13 = each-split (λ g. g ≡ clear) (groundsTo12 b q) (boundGround c k ∷ []) (none-holds (groundsTo13 b q) h) in
+    let to12 = each-split (λ g. g ≡ clear) (groundsTo11 b q) (priceGround c k ∷ []) (to13 .0) in
+    let to11 = each-split (λ g. g ≡ clear) (caseGrounds b) (formGrounds c q k) (to12 .0) in
+    named (to11 .0) (to11 .1) (to12 .1 .0) (to13 .1 .0)
   where
-    named : Valid b → AllClear (formGrounds (caseOf b) q) × AllClear (priceGround (caseOf b) (certificateOf q) ∷ boundGround (caseOf b) (certificateOf q) ∷ []) → Standing b q (caseOf b .resources) (caseOf b .zones) (caseOf b .flowgates)
-    named valid (form, (prices, (amounts, none))) =
+    named : Valid b → AllClear (formGrounds (caseOf b) q (certificateOf q)) → priceGround (caseOf b) (certificateOf q) ≡ clear → boundGround (caseOf b) (certificateOf q) ≡ clear → Standing b q (caseOf b .resources) (caseOf b .zones) (caseOf b .flowgates)
+    named valid form prices amounts =
         let c = caseOf b in
         let k = certificateOf q in
         let known = filing b q valid form in

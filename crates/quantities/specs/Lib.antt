@@ -1,2 +1,1 @@
-pub mod Grounds13
 pub mod Filing

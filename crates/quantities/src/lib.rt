@@ -21,12 +21,11 @@ ghost use Rattle.market.specs.UpperBounds.{Cleared, Provided, services, Schedul
 ghost use Rattle.market.specs.Certificate.{certificateOf};
 ghost use Rattle.market.specs.Records.{power, countsIn, recordOf, offerStepsOf, termsOf, amountsOf, clearedOf};
 ghost use Rattle.market.specs.Refusals.{firstOf, firstFailing, foundAt};
-ghost use Rattle.market.specs.Outcome.{Valid, withinBound};
+ghost use Rattle.market.specs.Outcome.{Valid, withinBound, priceGround, boundGround, groundsTo11, groundsTo13};
 ghost use Rattle.case_check.specs.Stages.{stageOf};
 ghost use Rattle.case_records.specs.Places.{HeadIn, CurveIn};
 ghost use Rattle.case_records.specs.Ranged.{Ranged, RangedSteps};
 ghost use Rattle.limits.specs.Together.{TermsRanged};
-ghost use Rattle.quantities.specs.Grounds13.{priceGround, boundGround, groundsTo11, groundsTo13};
 ghost use Rattle.quantities.specs.Filing.{Filing, Filed, Advanced};
 
 // ---- upper bounds

@@ -1,6 +1,6 @@
 use Rattle.outcomes.proofs.Passing.{rows-not-reached, row-broken, rows-met}
 use Rattle.quantities.proofs.Passing.{passed-standing}
-use Rattle.quantities.specs.Grounds13.{groundsTo13}
+use Rattle.market.specs.Outcome.{groundsTo13}
 use Rattle.case_check.specs.Stages.{stageOf}
 use Rattle.case_check.specs.declared.Stage.the-variants.{Passed, Refused}
 use Rattle.market.specs.Refusals.{firstOf}
