@@ -1,13 +1,19 @@
 // The case check: grounds 1 to 7 of a case file, each tested only where no earlier one holds anywhere in the file
 // (01, 'How each operation refuses'). `case_stage` is what the other operations start from.
+use market::CURVE_PRICES;
+use market::CURVE_SIZE;
+use market::CURVE_WIDTHS;
 use market::CaseAnswer;
 use market::Counts;
 use market::HEAD_SIZE;
 use market::MOST_FLOWGATES;
 use market::MOST_RESOURCES;
 use market::MOST_ZONES;
+use market::OFFER_PRICES;
+use market::OFFER_WIDTHS;
 use market::RESOURCE_SIZE;
 use market::Refusal;
+use market::STEP_SIZE;
 use market::ZONE_SIZE;
 ghost use mathlib.Core.Path.{_≡_};
 ghost use Prim.Native.Nat.{_+_, _*_, _<_, _≤_};
@@ -59,8 +65,8 @@ fn offer_starts(b: &[u8], at: usize) -> bool
     requires { ⌜ Within (now b) at resourceSize ⌝ }
     ensures { λ t. ⌜ t ≡ offerStarts (resourceAt (now (b .entry)) at) ⌝ }
 {
-    let width = wire::u32_at(b, at + 74);
-    let price = wire::u32_at(b, at + 78);
+    let width = wire::u32_at(b, at + OFFER_WIDTHS);
+    let price = wire::u32_at(b, at + OFFER_PRICES);
     follows(1, width, price, true)
 }
 
@@ -68,10 +74,10 @@ fn offer_step_follows(b: &[u8], at: usize, j: usize) -> bool
     requires { ⌜ (Within (now b) at resourceSize) × (j < 9) ⌝ }
     ensures { λ t. ⌜ t ≡ offerFollows (resourceAt (now (b .entry)) at) j ⌝ }
 {
-    let width = wire::u32_at(b, at + 74 + j * 8);
-    let price = wire::u32_at(b, at + 78 + j * 8);
-    let next_width = wire::u32_at(b, at + 74 + (j + 1) * 8);
-    let next_price = wire::u32_at(b, at + 78 + (j + 1) * 8);
+    let width = wire::u32_at(b, at + OFFER_WIDTHS + j * STEP_SIZE);
+    let price = wire::u32_at(b, at + OFFER_PRICES + j * STEP_SIZE);
+    let next_width = wire::u32_at(b, at + OFFER_WIDTHS + (j + 1) * STEP_SIZE);
+    let next_price = wire::u32_at(b, at + OFFER_PRICES + (j + 1) * STEP_SIZE);
     follows(width, next_width, next_price, not_above(price, next_price))
 }
 
@@ -103,7 +109,7 @@ fn offer_width(b: &[u8], at: usize) -> u64
     let mut sum: u64 = 0;
     let mut j: usize = 0;
     while j < 10 {
-        sum += wide(wire::u32_at(b, at + 74 + j * 8));
+        sum += wide(wire::u32_at(b, at + OFFER_WIDTHS + j * STEP_SIZE));
         j += 1;
     }
     sum
@@ -141,8 +147,8 @@ fn curve_starts(b: &[u8], curve: usize) -> bool
     requires { ⌜ (Within (now b) 0 headSize) × (curve < 4) ⌝ }
     ensures { λ t. ⌜ t ≡ curveStarts (caseOf (now (b .entry))) (curveNumbered curve) ⌝ }
 {
-    let width = wire::u32_at(b, 42 + curve * 32);
-    let price = wire::u32_at(b, 46 + curve * 32);
+    let width = wire::u32_at(b, CURVE_WIDTHS + curve * CURVE_SIZE);
+    let price = wire::u32_at(b, CURVE_PRICES + curve * CURVE_SIZE);
     follows(1, width, price, true)
 }
 
@@ -150,10 +156,10 @@ fn curve_step_follows(b: &[u8], curve: usize, j: usize) -> bool
     requires { ⌜ (Within (now b) 0 headSize) × (curve < 4) × (j < 3) ⌝ }
     ensures { λ t. ⌜ t ≡ curveFollows (caseOf (now (b .entry))) (curveNumbered curve) j ⌝ }
 {
-    let width = wire::u32_at(b, 42 + curve * 32 + j * 8);
-    let price = wire::u32_at(b, 46 + curve * 32 + j * 8);
-    let next_width = wire::u32_at(b, 42 + curve * 32 + (j + 1) * 8);
-    let next_price = wire::u32_at(b, 46 + curve * 32 + (j + 1) * 8);
+    let width = wire::u32_at(b, CURVE_WIDTHS + curve * CURVE_SIZE + j * STEP_SIZE);
+    let price = wire::u32_at(b, CURVE_PRICES + curve * CURVE_SIZE + j * STEP_SIZE);
+    let next_width = wire::u32_at(b, CURVE_WIDTHS + curve * CURVE_SIZE + (j + 1) * STEP_SIZE);
+    let next_price = wire::u32_at(b, CURVE_PRICES + curve * CURVE_SIZE + (j + 1) * STEP_SIZE);
     follows(width, next_width, next_price, next_price <= price)
 }
 

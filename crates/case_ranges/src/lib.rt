@@ -1,11 +1,17 @@
 // Ground 5 of the case check: every field of a case file within its range (01, 'The case file').
 // Each function tests some fields; all but one end at the first that is out of range. They ask that these fields lie within the
 // file; `fields_in_range` asks that the file is past refusals 1 to 4. Those of one resource or one flowgate are given its place.
+use market::CURVE_PRICES;
+use market::CURVE_SIZE;
+use market::CURVE_WIDTHS;
 use market::Counts;
 use market::FACTOR_SIZE;
 use market::FLOWGATE_HEAD_SIZE;
 use market::HEAD_SIZE;
+use market::OFFER_PRICES;
+use market::OFFER_WIDTHS;
 use market::RESOURCE_SIZE;
+use market::STEP_SIZE;
 use market::Status;
 use market::StatusRead;
 use market::ZONE_SIZE;
@@ -109,10 +115,10 @@ fn offer_step_in_range(b: &[u8], at: usize, j: usize) -> bool
     requires { ⌜ (Within (now b) at resourceSize) × (j < energySteps) ⌝ }
     ensures { λ t. ⌜ t ≡ offerStepInRange (resourceAt (now (b .entry)) at) j ⌝ }
 {
-    if !at_most(b, at + 74 + j * 8, 2000000) {
+    if !at_most(b, at + OFFER_WIDTHS + j * STEP_SIZE, 2000000) {
         return false;
     }
-    word_either_way(b, at + 78 + j * 8, 400000)
+    word_either_way(b, at + OFFER_PRICES + j * STEP_SIZE, 400000)
 }
 
 fn offer_in_range(b: &[u8], at: usize) -> bool
@@ -202,10 +208,14 @@ fn curve_step_in_range(b: &[u8], curve: usize, j: usize) -> bool
     requires { ⌜ (Within (now b) 0 headSize) × (curve < length curves) × (j < curveSteps) ⌝ }
     ensures { λ t. ⌜ t ≡ curveStepInRange (caseOf (now (b .entry))) (curveNumbered curve) j ⌝ }
 {
-    if !at_most(b, 42 + curve * 32 + j * 8, 8000000) {
+    if !at_most(
+        b,
+        CURVE_WIDTHS + curve * CURVE_SIZE + j * STEP_SIZE,
+        8000000,
+    ) {
         return false;
     }
-    at_most(b, 46 + curve * 32 + j * 8, 400000)
+    at_most(b, CURVE_PRICES + curve * CURVE_SIZE + j * STEP_SIZE, 400000)
 }
 
 fn curve_in_range(b: &[u8], curve: usize) -> bool

@@ -9,6 +9,9 @@ ghost use Rattle.market.specs.Case.{curves, curveNumbered, curveSteps, energySt
 ghost use Rattle.market.specs.CaseFile.{resourceSize, pairPlace, shareOrder, resourceAt, caseOf};
 ghost use Rattle.market.specs.Records.{kw, shiftFactor, power, minutes, offerStepOf, offerStepsOf, stateOf, outputLimitsOf, rampsOf, otherPowersOf, reserveOffersOf, recordOf, reserveTermsOf, termsOf, curveStepOf, curveStepsOf, zoneRequirementsOf};
 ghost use Rattle.case_records.specs.Places.{HeadIn, CurveIn, ZoneIn, ResourceIn, FlowgateIn, FactorIn};
+use market::CURVE_PRICES;
+use market::CURVE_SIZE;
+use market::CURVE_WIDTHS;
 use market::CurveSteps;
 use market::FACTOR_SIZE;
 use market::FLOWGATE_HEAD_SIZE;
@@ -16,6 +19,8 @@ use market::Flags;
 use market::HEAD_SIZE;
 use market::Kw;
 use market::Minutes;
+use market::OFFER_PRICES;
+use market::OFFER_WIDTHS;
 use market::OfferSteps;
 use market::OtherPowers;
 use market::OutputLimits;
@@ -24,6 +29,7 @@ use market::Ramps;
 use market::ReserveOffers;
 use market::ReserveTerms;
 use market::Resource;
+use market::STEP_SIZE;
 use market::ShiftFactor;
 use market::State;
 use market::Status;
@@ -111,8 +117,8 @@ fn offer_step_at(b: &[u8], at: usize, j: usize) -> Step
     ensures { λ r. ⌜ r ≡ offerStepOf (resourceAt (now (b .entry)) at) j ⌝ }
 {
     Step {
-        width: wire::kw_at(b, at + 74 + j * 8),
-        price: wire::signed_cents_at(b, at + 78 + j * 8),
+        width: wire::kw_at(b, at + OFFER_WIDTHS + j * STEP_SIZE),
+        price: wire::signed_cents_at(b, at + OFFER_PRICES + j * STEP_SIZE),
     }
 }
 
@@ -248,8 +254,8 @@ fn curve_step_at(b: &[u8], k: usize, j: usize) -> Step
     ensures { λ r. ⌜ r ≡ curveStepOf (caseOf (now (b .entry))) (curveNumbered k) j ⌝ }
 {
     Step {
-        width: wire::kw_at(b, 42 + k * 32 + j * 8),
-        price: wire::cents_at(b, 46 + k * 32 + j * 8),
+        width: wire::kw_at(b, CURVE_WIDTHS + k * CURVE_SIZE + j * STEP_SIZE),
+        price: wire::cents_at(b, CURVE_PRICES + k * CURVE_SIZE + j * STEP_SIZE),
     }
 }
 

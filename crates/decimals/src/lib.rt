@@ -11,6 +11,12 @@ ghost use Rattle.decimals.specs.Written.{Wrote, mostDigits, mostDecimal,
 
 // ---- numbers
 
+// No number of 64 bits is longer, its sign beside it.
+pub const MOST_DECIMAL: usize = 21;
+
+// With the space before it.
+pub const MOST_FIGURE: usize = MOST_DECIMAL + 1;
+
 // How many digits n has.
 fn digit_count(n: u64) -> usize
     ensures { λ r. ⌜ r ≡ digitCount mostDigits n ⌝ }

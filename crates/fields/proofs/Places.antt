@@ -8,6 +8,7 @@ use lib.ListN.{length, getD, replicate, length-append, length-replicate}
 use Rattle.arith.specs.Sums.{Each, across, upto}
 use Rattle.arith.proofs.Lists.{each-join, each-across, each-any, length-upto}
 use Rattle.market.specs.Numbers.{Field, u8, u32, i16, i32, times, headFields, resourceFields, flowgateFields, caseFields, curveFields, certificateHeadFields, entryFields, certificateFields}
+use Rattle.fields.specs.Layout.{headNumbers, zoneNumbers, resourceNumbers, certificateHeadNumbers, zonesEnd, resourcesEnd}
 use Rattle.market.proofs.FileSizes.{times-length, case-count}
 use Rattle.fields.proofs.Entries.{entry-first, entry-later, entry-repeated, entry-each}
 
@@ -29,7 +30,7 @@ factor-entry : (r j : ℕ) → 0 < j → j < r + 1 → getD (flowgateFields r) j
 factor-entry r zero a b = absurd (omega arith)
 factor-entry r (suc j) a b = entry-each u8 (λ x. x ≡ i16) (replicate r i16) (same-each r i16) j (omega (arith, length-replicate r i16))
 
-resource-entry : (r j : ℕ) → j < 43 * r → getD (times r resourceFields) j u8 ≡ getD resourceFields (j % 43) u8
+resource-entry : (r j : ℕ) → j < resourceNumbers * r → getD (times r resourceFields) j u8 ≡ getD resourceFields (j % resourceNumbers) u8
 unfolding times across upto
 resource-entry r j l = times-entry r resourceFields j (omega arith)
 
@@ -44,63 +45,63 @@ module _ (r z f k : ℕ) where
   abbrev flowgatePart : List Field
   flowgatePart = times f (flowgateFields r)
 
-  zones-long : length zonePart ≡ 4 * z
+  zones-long : length zonePart ≡ zoneNumbers * z
   zones-long = omega (arith, times-length z curveFields)
 
-  resources-long : length resourcePart ≡ 43 * r
+  resources-long : length resourcePart ≡ resourceNumbers * r
   unfolding times across upto
   resources-long = omega (arith, times-length r resourceFields)
 
-  pub case-head : k < 48 → getD (caseFields r z f) k u8 ≡ getD headFields k u8
+  pub case-head : k < headNumbers → getD (caseFields r z f) k u8 ≡ getD headFields k u8
   unfolding caseFields
   case-head h = entry-first u8 headFields (zonePart ++ (resourcePart ++ flowgatePart)) k h
 
-  past-head : 48 ≤ k → getD (caseFields r z f) k u8 ≡ getD (zonePart ++ (resourcePart ++ flowgatePart)) (k - 48) u8
+  past-head : headNumbers ≤ k → getD (caseFields r z f) k u8 ≡ getD (zonePart ++ (resourcePart ++ flowgatePart)) (k - headNumbers) u8
   unfolding caseFields
-  past-head h = entry-later u8 headFields (zonePart ++ (resourcePart ++ flowgatePart)) 48 k refl h
+  past-head h = entry-later u8 headFields (zonePart ++ (resourcePart ++ flowgatePart)) headNumbers k refl h
 
-  past-zones : 48 + 4 * z ≤ k → getD (caseFields r z f) k u8 ≡ getD (resourcePart ++ flowgatePart) (k - (48 + 4 * z)) u8
+  past-zones : zonesEnd z ≤ k → getD (caseFields r z f) k u8 ≡ getD (resourcePart ++ flowgatePart) (k - zonesEnd z) u8
   past-zones h =
-      let place : k - 48 - 4 * z ≡ k - (48 + 4 * z) = omega arith in
+      let place : k - headNumbers - zoneNumbers * z ≡ k - zonesEnd z = omega arith in
       past-head (omega arith)
-      ∙ entry-later u8 zonePart (resourcePart ++ flowgatePart) (4 * z) (k - 48) zones-long (omega arith)
+      ∙ entry-later u8 zonePart (resourcePart ++ flowgatePart) (zoneNumbers * z) (k - headNumbers) zones-long (omega arith)
       ∙ ap (λ (j : ℕ). getD (resourcePart ++ flowgatePart) j u8) place
 
-  past-resources : 48 + 4 * z + 43 * r ≤ k → getD (caseFields r z f) k u8 ≡ getD flowgatePart (k - (48 + 4 * z + 43 * r)) u8
+  past-resources : resourcesEnd r z ≤ k → getD (caseFields r z f) k u8 ≡ getD flowgatePart (k - resourcesEnd r z) u8
   past-resources h =
-      let place : k - (48 + 4 * z) - 43 * r ≡ k - (48 + 4 * z + 43 * r) = omega arith in
+      let place : k - zonesEnd z - resourceNumbers * r ≡ k - resourcesEnd r z = omega arith in
       past-zones (omega arith)
-      ∙ entry-later u8 resourcePart flowgatePart (43 * r) (k - (48 + 4 * z)) resources-long (omega arith)
+      ∙ entry-later u8 resourcePart flowgatePart (resourceNumbers * r) (k - zonesEnd z) resources-long (omega arith)
       ∙ ap (λ (j : ℕ). getD flowgatePart j u8) place
 
-  pub case-zone : 48 ≤ k → k < 48 + 4 * z → getD (caseFields r z f) k u8 ≡ u32
+  pub case-zone : headNumbers ≤ k → k < zonesEnd z → getD (caseFields r z f) k u8 ≡ u32
   case-zone h l =
       let each = times-each (λ x. x ≡ u32) z curveFields (same-each 4 u32) in
       past-head h
-      ∙ entry-first u8 zonePart (resourcePart ++ flowgatePart) (k - 48) (omega (arith, zones-long))
-      ∙ entry-each u8 (λ x. x ≡ u32) zonePart each (k - 48) (omega (arith, zones-long))
+      ∙ entry-first u8 zonePart (resourcePart ++ flowgatePart) (k - headNumbers) (omega (arith, zones-long))
+      ∙ entry-each u8 (λ x. x ≡ u32) zonePart each (k - headNumbers) (omega (arith, zones-long))
 
-  pub case-resource : 48 + 4 * z ≤ k → k < 48 + 4 * z + 43 * r → getD (caseFields r z f) k u8 ≡ getD resourceFields ((k - (48 + 4 * z)) % 43) u8
+  pub case-resource : zonesEnd z ≤ k → k < resourcesEnd r z → getD (caseFields r z f) k u8 ≡ getD resourceFields ((k - zonesEnd z) % resourceNumbers) u8
   case-resource h l =
       past-zones h
-      ∙ entry-first u8 resourcePart flowgatePart (k - (48 + 4 * z)) (omega (arith, resources-long))
-      ∙ resource-entry r (k - (48 + 4 * z)) (omega arith)
+      ∙ entry-first u8 resourcePart flowgatePart (k - zonesEnd z) (omega (arith, resources-long))
+      ∙ resource-entry r (k - zonesEnd z) (omega arith)
 
   -- of a flowgate the limit, then the shift factors
-  module _ (h : 48 + 4 * z + 43 * r ≤ k) (l : k < length (caseFields r z f)) where
-    of-flowgate : getD (caseFields r z f) k u8 ≡ getD (flowgateFields r) ((k - (48 + 4 * z + 43 * r)) % (r + 1)) u8
+  module _ (h : resourcesEnd r z ≤ k) (l : k < length (caseFields r z f)) where
+    of-flowgate : getD (caseFields r z f) k u8 ≡ getD (flowgateFields r) ((k - resourcesEnd r z) % (r + 1)) u8
     of-flowgate =
-        let m = k - (48 + 4 * z + 43 * r) in
+        let m = k - resourcesEnd r z in
         let wide : length (flowgateFields r) ≡ r + 1 = omega (arith, length-replicate r i16) in
         past-resources h
         ∙ times-entry f (flowgateFields r) m (rw wide (omega (arith, case-count r z f)))
         ∙ ap (λ (j : ℕ). getD (flowgateFields r) (m % j) u8) wide
 
-    pub case-limit : (k - (48 + 4 * z + 43 * r)) % (r + 1) ≡ 0 → getD (caseFields r z f) k u8 ≡ i32
+    pub case-limit : (k - resourcesEnd r z) % (r + 1) ≡ 0 → getD (caseFields r z f) k u8 ≡ i32
     case-limit e = of-flowgate ∙ ap (λ (j : ℕ). getD (flowgateFields r) j u8) e
 
-    pub case-factor : 0 < (k - (48 + 4 * z + 43 * r)) % (r + 1) → getD (caseFields r z f) k u8 ≡ i16
-    case-factor p = of-flowgate ∙ factor-entry r ((k - (48 + 4 * z + 43 * r)) % (r + 1)) p (mod-lt (k - (48 + 4 * z + 43 * r)) (omega arith))
+    pub case-factor : 0 < (k - resourcesEnd r z) % (r + 1) → getD (caseFields r z f) k u8 ≡ i16
+    case-factor p = of-flowgate ∙ factor-entry r ((k - resourcesEnd r z) % (r + 1)) p (mod-lt (k - resourcesEnd r z) (omega arith))
 
 -- ---- a certificate
 abbrev isU32 : Field → Type 0
@@ -115,10 +116,10 @@ module _ (r z f k : ℕ) where
       each-join isU32 (times z curveFields) (times f (u32 ∷ []) ++ times r entryFields) (times-each isU32 z curveFields (same-each 4 u32))
       (each-join isU32 (times f (u32 ∷ [])) (times r entryFields) (times-each isU32 f (u32 ∷ []) (refl, tt)) (times-each isU32 r entryFields (same-each 10 u32)))
 
-  pub certificate-head : k < 12 → getD (certificateFields r z f) k u8 ≡ getD certificateHeadFields k u8
+  pub certificate-head : k < certificateHeadNumbers → getD (certificateFields r z f) k u8 ≡ getD certificateHeadFields k u8
   unfolding certificateFields
   certificate-head h = entry-first u8 certificateHeadFields certificateRest k h
 
-  pub certificate-rest : 12 ≤ k → k < length (certificateFields r z f) → getD (certificateFields r z f) k u8 ≡ u32
+  pub certificate-rest : certificateHeadNumbers ≤ k → k < length (certificateFields r z f) → getD (certificateFields r z f) k u8 ≡ u32
   unfolding certificateFields
-  certificate-rest h l = entry-later u8 certificateHeadFields certificateRest 12 k refl h ∙ entry-each u8 isU32 certificateRest rest-each (k - 12) (omega (arith, length-append certificateHeadFields certificateRest))
+  certificate-rest h l = entry-later u8 certificateHeadFields certificateRest certificateHeadNumbers k refl h ∙ entry-each u8 isU32 certificateRest rest-each (k - certificateHeadNumbers) (omega (arith, length-append certificateHeadFields certificateRest))

@@ -1,4 +1,5 @@
 -- The code's fields and files as those of market's Numbers.
+use Prim.Native.Nat.{ℕ, _+_, _*_}
 use Rattle.market.specs.Numbers.{Field, u8, u16, u32, i16, i32, FieldsOf, caseFields, certificateFields}
 use Rattle.fields.specs.declared.File.{File}
 use Rattle.fields.specs.declared.File.the-variants.{Case, Certificate}
@@ -16,3 +17,23 @@ fieldOf K.I32 = i32
 abbrev pub fieldsOf : File → FieldsOf
 fieldsOf Case = caseFields
 fieldsOf Certificate = certificateFields
+
+-- how many numbers a part of a file has: a case's head, each resource of it, a certificate's head, and each zone of both
+abbrev pub headNumbers : ℕ
+headNumbers = 48
+
+abbrev pub resourceNumbers : ℕ
+resourceNumbers = 43
+
+abbrev pub certificateHeadNumbers : ℕ
+certificateHeadNumbers = 12
+
+abbrev pub zoneNumbers : ℕ
+zoneNumbers = 4
+
+-- how many numbers of a case stand before its resources, and before its flowgates
+abbrev pub zonesEnd : ℕ → ℕ
+zonesEnd zones = headNumbers + zoneNumbers * zones
+
+abbrev pub resourcesEnd : ℕ → ℕ → ℕ
+resourcesEnd resources zones = zonesEnd zones + resourceNumbers * resources

@@ -7,7 +7,7 @@ ghost use Rattle.market.specs.Bytes.{withinℤ};
 ghost use Rattle.market.specs.CaseCheck.{mostResources, mostZones, CountsWithin};
 ghost use Rattle.market.specs.Numbers.{u8, fieldWidth, fieldLow, fieldHigh, fieldAt, headFields, resourceFields, caseFields, certificateHeadFields, certificateFields};
 ghost use Rattle.wire.specs.Within.{Within};
-ghost use Rattle.fields.specs.Layout.{fieldOf, fieldsOf};
+ghost use Rattle.fields.specs.Layout.{fieldOf, fieldsOf, headNumbers, resourceNumbers, certificateHeadNumbers};
 
 // Unsigned or in two's complement, big-endian.
 pub enum Field {
@@ -70,9 +70,23 @@ pub fn fits(field: Field, v: i64) -> bool
     }
 }
 
+// ---- how many numbers a part of a file has
+// Of a case.
+const HEAD_NUMBERS: usize = 48;
+
+const RESOURCE_NUMBERS: usize = 43;
+
+// Of a certificate.
+const CERTIFICATE_HEAD_NUMBERS: usize = 12;
+
+const ENTRY_NUMBERS: usize = 10;
+
+// Of both, for each demand curve one.
+const ZONE_NUMBERS: usize = 4;
+
 // ---- the tables, in the order of the file
 // A case's own figures, before those of its zones.
-const HEAD: [Field; 48] = [
+const HEAD: [Field; HEAD_NUMBERS] = [
     // resources, zones, flowgates
     Field::U8,
     Field::U8,
@@ -132,7 +146,7 @@ const HEAD: [Field; 48] = [
     Field::U32,
 ];
 
-const RESOURCE: [Field; 43] = [
+const RESOURCE: [Field; RESOURCE_NUMBERS] = [
     Field::U8, // kind
     Field::U8, // zone
     Field::U8, // breaker
@@ -180,7 +194,7 @@ const RESOURCE: [Field; 43] = [
 ];
 
 // A certificate's figures, before those of its zones; all later ones are u32.
-const CERTIFICATE_HEAD: [Field; 12] = [
+const CERTIFICATE_HEAD: [Field; CERTIFICATE_HEAD_NUMBERS] = [
     // resources, zones, flowgates
     Field::U8,
     Field::U8,
@@ -200,21 +214,21 @@ const CERTIFICATE_HEAD: [Field; 12] = [
 ];
 
 fn head_field(k: usize) -> Field
-    requires { ⌜ k < 48 ⌝ }
+    requires { ⌜ k < headNumbers ⌝ }
     ensures { λ r. ⌜ fieldOf r ≡ getD headFields k u8 ⌝ }
 {
     HEAD[k]
 }
 
 fn resource_field(k: usize) -> Field
-    requires { ⌜ k < 43 ⌝ }
+    requires { ⌜ k < resourceNumbers ⌝ }
     ensures { λ r. ⌜ fieldOf r ≡ getD resourceFields k u8 ⌝ }
 {
     RESOURCE[k]
 }
 
 fn certificate_head_field(k: usize) -> Field
-    requires { ⌜ k < 12 ⌝ }
+    requires { ⌜ k < certificateHeadNumbers ⌝ }
     ensures { λ r. ⌜ fieldOf r ≡ getD certificateHeadFields k u8 ⌝ }
 {
     CERTIFICATE_HEAD[k]
@@ -225,16 +239,16 @@ fn case_field(resources: usize, zones: usize, k: usize) -> Field
     requires { ⌜ (resources ≤ mostResources) × (zones ≤ mostZones) ⌝ }
     ensures { λ r. ⌜ ((f : ℕ) → k < length (caseFields resources zones f) → fieldOf r ≡ getD (caseFields resources zones f) k u8) ⌝ }
 {
-    if k < 48 {
+    if k < HEAD_NUMBERS {
         return head_field(k);
     }
-    let zones_end = 48 + 4 * zones;
+    let zones_end = HEAD_NUMBERS + ZONE_NUMBERS * zones;
     if k < zones_end {
         return Field::U32;
     }
-    let resources_end = zones_end + 43 * resources;
+    let resources_end = zones_end + RESOURCE_NUMBERS * resources;
     if k < resources_end {
-        return resource_field((k - zones_end) % 43);
+        return resource_field((k - zones_end) % RESOURCE_NUMBERS);
     }
     // a flowgate's limit, then its shift factors
     if (k - resources_end) % (resources + 1) == 0 {
@@ -246,7 +260,7 @@ fn case_field(resources: usize, zones: usize, k: usize) -> Field
 fn certificate_field(k: usize) -> Field
     ensures { λ r. ⌜ ((n z f : ℕ) → k < length (certificateFields n z f) → fieldOf r ≡ getD (certificateFields n z f) k u8) ⌝ }
 {
-    if k < 12 {
+    if k < CERTIFICATE_HEAD_NUMBERS {
         return certificate_head_field(k);
     }
     Field::U32
@@ -268,7 +282,14 @@ pub fn count(file: File, resources: usize, zones: usize, flowgates: usize) -> us
     ensures { λ r. ⌜ r ≡ length (fieldsOf file resources zones flowgates) ⌝ }
 {
     match file {
-        File::Case => 48 + 4 * zones + 43 * resources + flowgates * (resources + 1),
-        File::Certificate => 12 + 4 * zones + flowgates + 10 * resources,
+        File::Case => {
+            HEAD_NUMBERS
+                + ZONE_NUMBERS * zones
+                + RESOURCE_NUMBERS * resources
+                + flowgates * (resources + 1)
+        }
+        File::Certificate => {
+            CERTIFICATE_HEAD_NUMBERS + ZONE_NUMBERS * zones + flowgates + ENTRY_NUMBERS * resources
+        }
     }
 }

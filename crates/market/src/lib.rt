@@ -25,6 +25,20 @@ pub const FLOWGATE_HEAD_SIZE: usize = 4;
 
 pub const FACTOR_SIZE: usize = 2;
 
+// Steps: the energy steps of a resource stand at these places of it, the demand curves at these places of the case, the
+// price of a step after its width.
+pub const STEP_SIZE: usize = 8;
+
+pub const OFFER_WIDTHS: usize = 74;
+
+pub const OFFER_PRICES: usize = OFFER_WIDTHS + 4;
+
+pub const CURVE_SIZE: usize = 4 * STEP_SIZE;
+
+pub const CURVE_WIDTHS: usize = 42;
+
+pub const CURVE_PRICES: usize = CURVE_WIDTHS + 4;
+
 pub const LARGEST_CASE_SIZE: usize = HEAD_SIZE
     + MOST_ZONES * ZONE_SIZE
     + MOST_RESOURCES * RESOURCE_SIZE

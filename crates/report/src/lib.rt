@@ -11,11 +11,21 @@ ghost use Rattle.market.specs.Program.{report as reportOf};
 ghost use Rattle.decimals.specs.Written.{Wrote};
 ghost use Rattle.printed_lines.specs.Room.{mostText};
 ghost use Rattle.report.specs.Buffer.{reportCount, reportBuffer};
+use decimals::MOST_DECIMAL;
+use decimals::MOST_FIGURE;
+use market::MOST_RESOURCES;
+use market::MOST_ZONES;
 use market::Outcome;
 use market::Refusal;
 
-// No text is longer.
-pub const MOST_TEXT: usize = 12265;
+// No text is longer: it has the lines 'cost', 'bound' and 'gap', then those of the resources (number, on-line, e g c s o, LMP)
+// and of the zones (the word, number, four prices), each number at its longest.
+pub const MOST_TEXT: usize = 4
+    + 5
+    + 3
+    + 3 * (MOST_FIGURE + 1)
+    + MOST_RESOURCES * (MOST_DECIMAL + 7 * MOST_FIGURE + 1)
+    + MOST_ZONES * (4 + 5 * MOST_FIGURE + 1);
 
 // The program takes no more.
 pub const MOST_INPUT: usize = 32768;

@@ -5,13 +5,14 @@ use native.Mathlib.Omega.{arith}
 use lib.ListN.{length, take}
 use lib.Seq.{length-take-le}
 use borrow.Author.Needs.{needs}
+use Rattle.printed_lines.specs.Room.{mostText}
 use Rattle.report.proofs.Printed.{count-within}
 use Rattle.nostwier_cli.proofs.main.Statement.{statement}
 use Rattle.nostwier_cli.proofs.main.Tie as tie
 
 -- the text lies within the buffer
 within : (c : tie.After-report) → c .report .result ≤ length (c .report .last .1 .0)
-within c = let w = c .report in let got = c .before .before .before .before .read-full in omega (arith, w .kept .1 .0, count-within (take (got .result) (got .last .1 .0)) 12265 (w .result) (w .ensures .0))
+within c = let w = c .report in let got = c .before .before .before .before .read-full in omega (arith, w .kept .1 .0, count-within (take (got .result) (got .last .1 .0)) mostText (w .result) (w .ensures .0))
 
 array-share-prefix-out : tie.Need-array-share-prefix-out
 array-share-prefix-out c = within (c .before)
