@@ -18,7 +18,8 @@ use Rattle.market.specs.Records.{countsIn}
 use Rattle.market.specs.Refusals.{Finding, clear, holds, unless, firstOf}
 use Rattle.market.specs.Outcome.{caseGrounds, Valid}
 use Rattle.market.proofs.Grounds.{none-holds}
-use Rattle.market.proofs.Passed.{Test, findings, caseTests}
+use Rattle.market.proofs.GroundTests.{Test, findings}
+use Rattle.market.proofs.Passed.{caseTests}
 use Rattle.market.proofs.Ranges.{counts-most}
 use Rattle.wire.specs.CaseBytes.{CaseBytes}
 use Rattle.wire.proofs.WholeCase.{whole-case, valid-case}

@@ -6,7 +6,7 @@ use market::Counts;
 use market::Refusal;
 use market::ZONE_PRICES_SIZE;
 ghost use mathlib.Core.Path.{_≡_};
-ghost use Prim.Native.Nat.{_+_, _*_, _<_, _≤_};
+ghost use Prim.Native.Nat.{_+_, _*_, _<_};
 ghost use Rattle.arith.specs.Sums.{upto, all};
 ghost use Rattle.market.specs.Case.{Case};
 ghost use Rattle.market.specs.CaseCheck.{CountsWithin};

@@ -18,7 +18,8 @@ use Rattle.market.specs.Refusals.{Finding, clear, firstOf, AllClear}
 use Rattle.market.specs.Numbers.{Field, fieldWidth, numbersAt, numbersFit, fileOf, FieldsOf, numbersOf, countIn, countsInRange, fieldsFor, fileFor, listGrounds}
 use Rattle.market.specs.RoundTrips.{AreBytes}
 use Rattle.market.proofs.Grounds.{none-holds, all-clear, first-later}
-use Rattle.market.proofs.Passed.{Test, test, findings, AllPass, tests-pass, tests-clear, list-passed, list-clear}
+use Rattle.market.proofs.GroundTests.{Test, test, findings, AllPass, tests-pass, tests-clear}
+use Rattle.market.proofs.Passed.{list-passed, list-clear}
 use Rattle.market.proofs.Ranges.{counts-most}
 use Rattle.market.proofs.FieldLists.{numbers-fit}
 use Rattle.market.proofs.FileContents.{CountsFirst, byCounts, file-length, length-field, file-read, file-written, fields-by-counts, range-of-counts, three-numbers}

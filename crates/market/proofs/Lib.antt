@@ -1,6 +1,7 @@
 pub mod Computed
 pub mod CurveNumbers
 pub mod Grounds
+pub mod GroundTests
 pub mod Passed
 pub mod LentBuffer
 pub mod FirstAt

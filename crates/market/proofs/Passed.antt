@@ -1,48 +1,24 @@
--- Grounds as tests, and what has passed where none of them holds, test by test: proofs take a test by its name, and only this
--- file knows at which place of its list a ground stands.
-use mathlib.Core.Bool.{Bool}
+-- What has passed where no ground holds, test by test: proofs take a test by its name, and only this file knows at which place of
+-- its list a ground stands.
 use mathlib.Core.List.{List, [], _∷_, _++_}
 use mathlib.Core.Path.{_≡_, refl}
 use Prim.Native.Nat.{ℕ}
 use lib.Dec.{T, leb, eqb}
 use lib.IntN.{ℤ}
 use lib.ListN.{length}
-use Rattle.arith.specs.Sums.{Each, all}
+use Rattle.arith.specs.Sums.{all}
 use Rattle.arith.proofs.Lists.{each-split}
-use Rattle.market.specs.declared.Refusal.{Refusal}
 use Rattle.market.specs.declared.Refusal.the-variants.{CaseLength, CaseVersion, Counts, CaseSize, FieldRange, StepRule, LimitPair, CertificateLength, CertificateVersion, CountsDiffer, CertificateSize, PriceRange, NumberList}
 use Rattle.market.specs.Case.{Case}
 use Rattle.market.specs.CaseFile.{leastCaseSize, caseOf}
 use Rattle.market.specs.CaseCheck.{lengthRight, versionRight, countsRight, caseSizeRight, fieldsInRange, stepsRule, limitsOrdered}
 use Rattle.market.specs.Rows.{rows}
 use Rattle.market.specs.Certificate.{Certificate, certificateOf, leastCertificateSize, certificateSize}
-use Rattle.market.specs.Refusals.{Finding, clear, unless, AllClear}
+use Rattle.market.specs.Refusals.{clear, AllClear}
 use Rattle.market.specs.Outcome.{Valid, caseGrounds, certificateGrounds, sameCounts, priceRight, formGrounds, priceGround, boundGround, rowGround, grounds, groundsTo11, groundsTo12, groundsTo13}
 use Rattle.market.specs.Numbers.{FieldsOf, fieldsFor, numbersFit, countsInRange, listGrounds}
-use Rattle.market.proofs.Grounds.{unless-clear, clear-unless}
-
--- ---- tests in their order, each with the refusal where it fails
-pub record Test : Type 0 where
-  pub passes : Bool
-  pub refusal : Refusal
-
-abbrev pub test : Bool → Refusal → Test
-test t r = record { passes = t; refusal = r }
-
-abbrev pub findings : List Test → List Finding
-findings [] = []
-findings (t ∷ ts) = unless (t .passes) (t .refusal) ∷ findings ts
-
-abbrev pub AllPass : List Test → Type 0
-AllPass ts = Each (λ t. T (t .passes)) ts
-
-pub tests-pass : (ts : List Test) → AllClear (findings ts) → AllPass ts
-tests-pass [] h = tt
-tests-pass (t ∷ ts) h = (unless-clear (t .passes) (t .refusal) (h .0), tests-pass ts (h .1))
-
-pub tests-clear : (ts : List Test) → AllPass ts → AllClear (findings ts)
-tests-clear [] h = tt
-tests-clear (t ∷ ts) h = (clear-unless (t .passes) (t .refusal) (h .0), tests-clear ts (h .1))
+use Rattle.market.proofs.Grounds.{unless-clear}
+use Rattle.market.proofs.GroundTests.{Test, test, findings, AllPass, tests-pass, tests-clear}
 
 -- ---- a case: 1 to 7
 abbrev pub caseTests : List ℕ → List Test

@@ -24,7 +24,7 @@ use Rattle.market.specs.Outcome.{caseGrounds, caseAnswer, formGrounds, c
 use Rattle.market.specs.Numbers.{caseNumbers, certificateNumbers, caseFile, certificateFile, readCaseGrounds, readCase, readCertificateGrounds, readCertificate, writeCaseGrounds, writeCase, writeCertificateGrounds, writeCertificate}
 use Rattle.market.specs.RefusedExactly.{Exactly, PlacesExactly, RefusedExactly}
 use Rattle.market.proofs.Grounds.{none-holds, all-clear, first-holds, holds-first}
-use Rattle.market.proofs.Passed.{Test, test}
+use Rattle.market.proofs.GroundTests.{Test, test}
 use Rattle.market.proofs.RefusedPlaces.{otherNumber, places}
 use Rattle.market.proofs.PrintedRefusal.{program-exactly, program-placed}
 

@@ -19,7 +19,8 @@ use Rattle.market.specs.Refusals.{Finding, clear, holds, unless, numberO
 use Rattle.market.specs.Outcome.{Valid, caseGrounds, formGrounds, priceGround, boundGround, rowGround, certificateGrounds, grounds, groundsTo11, groundsTo12, groundsTo13, withinBound, rowMet}
 use Rattle.market.specs.RefusedExactly.{AboveBoundAt, RowBrokenAt, PlacesExactly}
 use Rattle.market.proofs.Grounds.{not-clear, holds-first}
-use Rattle.market.proofs.Passed.{Test, findings, testsTo12, tests-to-12}
+use Rattle.market.proofs.GroundTests.{Test, findings}
+use Rattle.market.proofs.Passed.{testsTo12, tests-to-12}
 use Rattle.market.proofs.FirstAt.{first-failing-at, bounds-tested, rows-tested}
 
 -- ---- grounds that do not refuse by number n
