@@ -81,7 +81,7 @@ EDITS = [
     ("bound_without_min", "Bound", "lowest c y p = minℤ (pos 0) (netPrice c y p *ℤ pos (pricedUpperBound c p))", "lowest c y p = netPrice c y p *ℤ pos (pricedUpperBound c p)"),
     ("charge_at_width", "Charges", "pricedCharge c x y p = netPrice c y p *ℤ pos (part c x p) -ℤ", "pricedCharge c x y p = netPrice c y p *ℤ pos (Rattle.market.specs.Cost.pricedUpperBound c p) -ℤ"),
     ("charge_order", "Charges", "map (rowCharge c x y) (rows c) ++ map (pricedCharge c x y) (priced c)", "map (pricedCharge c x y) (priced c) ++ map (rowCharge c x y) (rows c)"),
-    ("charge_count", "Rows", "rowCount c = 1 + length curves", "rowCount c = length curves"),
+    ("charge_count", "Rows", "systemRowCount = 1 + length curves", "systemRowCount = length curves"),
     ("lmp_sign", "Prices", "LMP c y i = y Balance -ℤ sumOf", "LMP c y i = y Balance +ℤ sumOf"),
     ("spinning_alone", "Prices", "zoneSpinningPrice y z = bothRows y z operating +ℤ bothRows y z regulatingPlusSpinning", "zoneSpinningPrice y z = bothRows y z regulatingPlusSpinning"),
     ("zone_prices_swapped", "Prices", "zoneRegulatingPrice y z ∷ zoneSpinningPrice y z ∷ zoneSupplementalPrice y z ∷", "zoneRegulatingPrice y z ∷ zoneSupplementalPrice y z ∷ zoneSpinningPrice y z ∷"),

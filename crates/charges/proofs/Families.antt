@@ -13,7 +13,7 @@ use Rattle.market.specs.Availability.{onLine}
 use Rattle.market.specs.UpperBounds.{Schedule, Provided, Cleared, energy, reserveServices}
 use Rattle.market.specs.Rows.{Market}
 use Rattle.market.specs.Certificate.{Prices}
-use Rattle.market.specs.Cost.{EnergyStep, Whole, CurveStep, pricedOf, curvePriced, priced, part, pricedUpperBound}
+use Rattle.market.specs.Cost.{EnergyStep, Whole, CurveStep, pricedOf, curvePriced, priced, part, pricedUpperBound, resourcePricedCount}
 use Rattle.market.specs.Bound.{lowest}
 use Rattle.market.specs.Charges.{pricedCharge}
 use Rattle.market.specs.Records.{millicents, amountsOf, offerStepOf, offerStepsOf, curveStepOf, curveStepsOf}
@@ -80,7 +80,7 @@ module _ (c : Case) (x : Schedule) (y : Prices) where
         ≡ map (pricedCharge c x y) (pricedOf i)
     resource-is = rw (steps-are, reserves-are) (sym (map-append (pricedCharge c x y) (map (EnergyStep i) (upto energySteps)) (map (Whole i) reserveServices)))
 
-  pub resource-count : (i : ℕ) → length (map (pricedCharge c x y) (pricedOf i)) ≡ 14
+  pub resource-count : (i : ℕ) → length (map (pricedCharge c x y) (pricedOf i)) ≡ resourcePricedCount
   resource-count i =
       omega (
         arith,

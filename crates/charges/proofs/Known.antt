@@ -13,9 +13,9 @@ use Rattle.market.specs.Case.{Case, Curve, curves, operating, regulatingPlusSpi
 use Rattle.market.specs.CaseFile.{caseOf}
 use Rattle.market.specs.Availability.{onLine}
 use Rattle.market.specs.UpperBounds.{Schedule, Service, Provided, Cleared, regulation, contingency, onLineShortTerm, offLineShortTerm}
-use Rattle.market.specs.Rows.{Market, rows}
+use Rattle.market.specs.Rows.{Market, rows, rowCountOf}
 use Rattle.market.specs.Certificate.{Prices, certificateOf}
-use Rattle.market.specs.Cost.{curvePriced, priced}
+use Rattle.market.specs.Cost.{curvePriced, priced, resourcePricedCount, pricedCountOf}
 use Rattle.market.specs.Charges.{rowCharge, pricedCharge, charges, chargeCount}
 use Rattle.market.specs.Sizes.{mostPower}
 use Rattle.market.specs.Records.{power, millicents, offerStepsOf, amountsOf, curveStepsOf}
@@ -93,14 +93,14 @@ module _ {b q : List ℕ} {r z f : ℕ} (s : Standing b q r z f) where
   all-listed = rw (resources-is (s .prices .case-bytes)) (priced-are c x y)
 
   -- the rows' charges, by the code's count
-  pub rows-counted : length (map (rowCharge c x y) (rows c)) ≡ 5 + z * 4 + f + r * 5
+  pub rows-counted : length (map (rowCharge c x y) (rows c)) ≡ rowCountOf r z f
   rows-counted = rw (resources-is (s .prices .case-bytes), zones-is (s .prices .case-bytes), flowgates-is (s .prices .case-bytes)) (length-map (rows c) (rowCharge c x y) ∙ row-count c)
 
   -- and then those of what is priced
-  pub charges-listed : (o : List ℤ) → (map (rowCharge c x y) (rows c) ++ map (pricedCharge c x y) (priced c)) ++ drop (5 + z * 4 + f + r * 5 + (r * 14 + 16)) o ≡ charges c x y ++ drop (chargeCount c) o
+  pub charges-listed : (o : List ℤ) → (map (rowCharge c x y) (rows c) ++ map (pricedCharge c x y) (priced c)) ++ drop (rowCountOf r z f + pricedCountOf r) o ≡ charges c x y ++ drop (chargeCount c) o
   unfolding charges
   charges-listed o =
-      let e : 5 + z * 4 + f + r * 5 + (r * 14 + 16) ≡ chargeCount c = omega (arith, resources-is (s .prices .case-bytes), zones-is (s .prices .case-bytes), flowgates-is (s .prices .case-bytes)) in
+      let e : rowCountOf r z f + pricedCountOf r ≡ chargeCount c = omega (arith, resources-is (s .prices .case-bytes), zones-is (s .prices .case-bytes), flowgates-is (s .prices .case-bytes)) in
       rw e
 
 -- ---- the curves that are read
@@ -123,7 +123,7 @@ module _ (b q : List ℕ) where
       (λ i. (curve-listed operating e₁ i ++ curve-listed regulatingPlusSpinning e₂ i) ++ (curve-listed regulating e₃ i ++ curve-listed shortTerm e₄ i))
       ∙ curves-are (caseOf b) (certificateOf q .amount) (certificateOf q .price)
 
-  -- ---- fourteen a resource
-  pub resources-count : (n : ℕ) → length (across (resourceCharges b q) (upto n)) ≡ n * 14
+  -- ---- each resource has as many
+  pub resources-count : (n : ℕ) → length (across (resourceCharges b q) (upto n)) ≡ n * resourcePricedCount
   resources-count n =
-      omega (arith, length-across (resourceCharges b q) 14 (resource-count (caseOf b) (certificateOf q .amount) (certificateOf q .price)) (upto n), length-upto n)
+      omega (arith, length-across (resourceCharges b q) resourcePricedCount (resource-count (caseOf b) (certificateOf q .amount) (certificateOf q .price)) (upto n), length-upto n)

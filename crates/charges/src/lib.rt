@@ -10,8 +10,8 @@ ghost use Rattle.arith.specs.Sums.{upto, across};
 ghost use Rattle.market.specs.Case.{curves, curveNumbered};
 ghost use Rattle.market.specs.CaseFile.{caseOf};
 ghost use Rattle.market.specs.Certificate.{certificateOf};
-ghost use Rattle.market.specs.Cost.{curvePriced, priced};
-ghost use Rattle.market.specs.Charges.{pricedCharge, charges, chargeCount};
+ghost use Rattle.market.specs.Cost.{curvePriced, priced, resourcePricedCount, curvePricedCount, pricedCountOf};
+ghost use Rattle.market.specs.Charges.{pricedCharge, charges, chargeCount, chargeCountOf};
 ghost use Rattle.market.specs.Records.{grains, curveStepsOf};
 ghost use Rattle.market.specs.Sizes.{mostPower, mostCurveWidth};
 ghost use Rattle.case_records.specs.Places.{CurveIn};
@@ -27,7 +27,11 @@ use market::Grains;
 use market::Kw;
 use market::Millicents;
 use market::OfferSteps;
+use market::RESOURCE_PRICED;
+use market::RESOURCE_ROWS;
+use market::SYSTEM_ROWS;
 use market::Step;
+use market::ZONE_ROWS;
 use net_prices::Nets;
 
 // What an amount adds at its net price, beyond the least that it could add up to its upper bound.
@@ -99,8 +103,8 @@ fn write_reserves(prices: Nets, amounts: Amounts, uppers: ReserveBounds, out: &m
 
 // The fourteen charges of resource i.
 fn write_resource(b: &[u8], q: &[u8], r: usize, z: usize, f: usize, i: usize, out: &mut [i64])
-    requires { ⌜ (Standing (now b) (now q) r z f × (i < r)) × (14 ≤ length (now out)) ⌝ }
-    ensures { λ _. ⌜ now (out .exit) ≡ resourceCharges (now (b .entry)) (now (q .entry)) i ++ drop 14 (now (out .entry)) ⌝ }
+    requires { ⌜ (Standing (now b) (now q) r z f × (i < r)) × (resourcePricedCount ≤ length (now out)) ⌝ }
+    ensures { λ _. ⌜ now (out .exit) ≡ resourceCharges (now (b .entry)) (now (q .entry)) i ++ drop resourcePricedCount (now (out .entry)) ⌝ }
 {
     let resource = case_reader::resource_at(b, r, z, f, i);
     let amounts = certificate_records::amounts_at(q, r, z, f, i);
@@ -114,14 +118,14 @@ fn write_resource(b: &[u8], q: &[u8], r: usize, z: usize, f: usize, i: usize, ou
 
 // Each resource's charges, from its own place on.
 fn write_resources(b: &[u8], q: &[u8], r: usize, z: usize, f: usize, out: &mut [i64])
-    requires { ⌜ Standing (now b) (now q) r z f × (r * 14 ≤ length (now out)) ⌝ }
-    ensures { λ _. ⌜ now (out .exit) ≡ across (resourceCharges (now (b .entry)) (now (q .entry))) (upto r) ++ drop (r * 14) (now (out .entry)) ⌝ }
+    requires { ⌜ Standing (now b) (now q) r z f × (r * resourcePricedCount ≤ length (now out)) ⌝ }
+    ensures { λ _. ⌜ now (out .exit) ≡ across (resourceCharges (now (b .entry)) (now (q .entry))) (upto r) ++ drop (r * resourcePricedCount) (now (out .entry)) ⌝ }
 {
     let mut i: usize = 0;
     let mut at: usize = 0;
     while i < r {
         write_resource(b, q, r, z, f, i, &mut out[at..]);
-        at += 14;
+        at += RESOURCE_PRICED;
         i += 1;
     }
 }
@@ -194,8 +198,8 @@ fn write_pair(first: ClearedCurve, second: ClearedCurve, out: &mut [i64])
 
 // The four curves in order.
 fn write_curves(b: &[u8], q: &[u8], r: usize, z: usize, f: usize, out: &mut [i64])
-    requires { ⌜ Standing (now b) (now q) r z f × (16 ≤ length (now out)) ⌝ }
-    ensures { λ _. ⌜ now (out .exit) ≡ map (chargeIn (now (b .entry)) (now (q .entry))) (across curvePriced curves) ++ drop 16 (now (out .entry)) ⌝ }
+    requires { ⌜ Standing (now b) (now q) r z f × (curvePricedCount ≤ length (now out)) ⌝ }
+    ensures { λ _. ⌜ now (out .exit) ≡ map (chargeIn (now (b .entry)) (now (q .entry))) (across curvePriced curves) ++ drop curvePricedCount (now (out .entry)) ⌝ }
 {
     let prices = certificate_records::market_prices(q, r, z, f);
     let cleared = certificate_records::cleared(q, r, z, f);
@@ -218,11 +222,11 @@ fn write_curves(b: &[u8], q: &[u8], r: usize, z: usize, f: usize, out: &mut [i64
 // ---- all that is priced
 
 fn write_priced_charges(b: &[u8], q: &[u8], r: usize, z: usize, f: usize, out: &mut [i64])
-    requires { ⌜ Standing (now b) (now q) r z f × (r * 14 + 16 ≤ length (now out)) ⌝ }
-    ensures { λ _. ⌜ now (out .exit) ≡ map (pricedCharge (caseOf (now (b .entry))) (certificateOf (now (q .entry)) .amount) (certificateOf (now (q .entry)) .price)) (priced (caseOf (now (b .entry)))) ++ drop (r * 14 + 16) (now (out .entry)) ⌝ }
+    requires { ⌜ Standing (now b) (now q) r z f × (pricedCountOf r ≤ length (now out)) ⌝ }
+    ensures { λ _. ⌜ now (out .exit) ≡ map (pricedCharge (caseOf (now (b .entry))) (certificateOf (now (q .entry)) .amount) (certificateOf (now (q .entry)) .price)) (priced (caseOf (now (b .entry)))) ++ drop (pricedCountOf r) (now (out .entry)) ⌝ }
 {
     write_resources(b, q, r, z, f, out);
-    let at = r * 14;
+    let at = r * RESOURCE_PRICED;
     write_curves(b, q, r, z, f, &mut out[at..]);
 }
 
@@ -230,10 +234,10 @@ fn write_priced_charges(b: &[u8], q: &[u8], r: usize, z: usize, f: usize, out: &
 
 // The rows', then those of what is priced.
 pub fn write_charges(b: &[u8], q: &[u8], r: usize, z: usize, f: usize, out: &mut [i64])
-    requires { ⌜ Standing (now b) (now q) r z f × (21 + 4 * z + f + 19 * r ≤ length (now out)) ⌝ }
+    requires { ⌜ Standing (now b) (now q) r z f × (chargeCountOf r z f ≤ length (now out)) ⌝ }
     ensures { λ _. ⌜ now (out .exit) ≡ charges (caseOf (now (b .entry))) (certificateOf (now (q .entry)) .amount) (certificateOf (now (q .entry)) .price) ++ drop (chargeCount (caseOf (now (b .entry)))) (now (out .entry)) ⌝ }
 {
     row_charges::write_row_charges(b, q, r, z, f, out);
-    let at = 5 + z * 4 + f + r * 5;
+    let at = SYSTEM_ROWS + z * ZONE_ROWS + f + r * RESOURCE_ROWS;
     write_priced_charges(b, q, r, z, f, &mut out[at..]);
 }

@@ -8,7 +8,7 @@ use lib.ListN.{length, getD, replicate, length-append, length-replicate}
 use Rattle.arith.specs.Sums.{Each, across, upto}
 use Rattle.arith.proofs.Lists.{each-join, each-across, each-any, length-upto}
 use Rattle.market.specs.Numbers.{Field, u8, u32, i16, i32, times, headFields, resourceFields, flowgateFields, caseFields, curveFields, certificateHeadFields, entryFields, certificateFields}
-use Rattle.fields.specs.Layout.{headNumbers, zoneNumbers, resourceNumbers, certificateHeadNumbers, zonesEnd, resourcesEnd}
+use Rattle.fields.specs.Layout.{headNumbers, zoneNumbers, resourceNumbers, certificateHeadNumbers, entryNumbers, zonesEnd, resourcesEnd}
 use Rattle.market.proofs.FileSizes.{times-length, case-count}
 use Rattle.fields.proofs.Entries.{entry-first, entry-later, entry-repeated, entry-each}
 
@@ -76,7 +76,7 @@ module _ (r z f k : ℕ) where
 
   pub case-zone : headNumbers ≤ k → k < zonesEnd z → getD (caseFields r z f) k u8 ≡ u32
   case-zone h l =
-      let each = times-each (λ x. x ≡ u32) z curveFields (same-each 4 u32) in
+      let each = times-each (λ x. x ≡ u32) z curveFields (same-each zoneNumbers u32) in
       past-head h
       ∙ entry-first u8 zonePart (resourcePart ++ flowgatePart) (k - headNumbers) (omega (arith, zones-long))
       ∙ entry-each u8 (λ x. x ≡ u32) zonePart each (k - headNumbers) (omega (arith, zones-long))
@@ -113,8 +113,8 @@ module _ (r z f k : ℕ) where
 
   rest-each : Each isU32 certificateRest
   rest-each =
-      each-join isU32 (times z curveFields) (times f (u32 ∷ []) ++ times r entryFields) (times-each isU32 z curveFields (same-each 4 u32))
-      (each-join isU32 (times f (u32 ∷ [])) (times r entryFields) (times-each isU32 f (u32 ∷ []) (refl, tt)) (times-each isU32 r entryFields (same-each 10 u32)))
+      each-join isU32 (times z curveFields) (times f (u32 ∷ []) ++ times r entryFields) (times-each isU32 z curveFields (same-each zoneNumbers u32))
+      (each-join isU32 (times f (u32 ∷ [])) (times r entryFields) (times-each isU32 f (u32 ∷ []) (refl, tt)) (times-each isU32 r entryFields (same-each entryNumbers u32)))
 
   pub certificate-head : k < certificateHeadNumbers → getD (certificateFields r z f) k u8 ≡ getD certificateHeadFields k u8
   unfolding certificateFields

@@ -18,7 +18,8 @@ abbrev pub fieldsOf : File → FieldsOf
 fieldsOf Case = caseFields
 fieldsOf Certificate = certificateFields
 
--- how many numbers a part of a file has: a case's head, each resource of it, a certificate's head, and each zone of both
+-- how many numbers a part of a file has: a case's head, each resource of it, a certificate's head, what it says of each resource,
+-- and each zone of both
 abbrev pub headNumbers : ℕ
 headNumbers = 48
 
@@ -27,6 +28,9 @@ resourceNumbers = 43
 
 abbrev pub certificateHeadNumbers : ℕ
 certificateHeadNumbers = 12
+
+abbrev pub entryNumbers : ℕ
+entryNumbers = 10
 
 abbrev pub zoneNumbers : ℕ
 zoneNumbers = 4

@@ -5,9 +5,9 @@ use Prim.Native.Nat.{ℕ, _+_}
 use lib.IntN.{ℤ, pos, _*ℤ_, _-ℤ_}
 use Rattle.market.specs.Case.{Case}
 use Rattle.market.specs.UpperBounds.{Schedule}
-use Rattle.market.specs.Rows.{Row, rows, rowCount, slack}
+use Rattle.market.specs.Rows.{Row, rows, rowCountOf, slack}
 use Rattle.market.specs.Certificate.{Prices}
-use Rattle.market.specs.Cost.{Priced, priced, pricedCount, part, cost}
+use Rattle.market.specs.Cost.{Priced, priced, pricedCountOf, part, cost}
 use Rattle.market.specs.Bound.{netPrice, lowest, bound}
 
 abbrev pub gap : Case → Schedule → Prices → ℤ
@@ -24,5 +24,8 @@ unfoldable pub charges : Case → Schedule → Prices → List ℤ
 charges c x y = map (rowCharge c x y) (rows c) ++ map (pricedCharge c x y) (priced c)
 
 -- 21 + 4Z + F + 19R
+abbrev pub chargeCountOf : ℕ → ℕ → ℕ → ℕ
+chargeCountOf r z f = rowCountOf r z f + pricedCountOf r
+
 abbrev pub chargeCount : Case → ℕ
-chargeCount c = rowCount c + pricedCount c
+chargeCount c = chargeCountOf (c .resources) (c .zones) (c .flowgates)

@@ -27,12 +27,18 @@ curvePriced k = map (CurveStep k) (upto curveSteps)
 unfoldable pub priced : Case → List Priced
 priced c = across pricedOf (upto (c .resources)) ++ across curvePriced curves
 
--- how many of a resource, and in all
+-- how many of a resource, of the curves, and in all
 abbrev pub resourcePricedCount : ℕ
 resourcePricedCount = energySteps + length reserveServices
 
+abbrev pub curvePricedCount : ℕ
+curvePricedCount = length curves * curveSteps
+
+abbrev pub pricedCountOf : ℕ → ℕ
+pricedCountOf resources = resources * resourcePricedCount + curvePricedCount
+
 abbrev pub pricedCount : Case → ℕ
-pricedCount c = c .resources * resourcePricedCount + length curves * curveSteps
+pricedCount c = pricedCountOf (c .resources)
 
 -- a step has its quantity's coefficient
 unfoldable pub quantityOf : Priced → Quantity

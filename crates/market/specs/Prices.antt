@@ -37,5 +37,8 @@ zonePrices y z = zoneRegulatingPrice y z ∷ zoneSpinningPrice y z ∷ zoneSuppl
 unfoldable pub priceList : Case → Prices → List ℤ
 priceList c y = map (LMP c y) (upto (c .resources)) ++ across (zonePrices y) (upto (c .zones))
 
+abbrev pub priceCountOf : ℕ → ℕ → ℕ
+priceCountOf resources zones = resources + zonePriceCount * zones
+
 abbrev pub priceCount : Case → ℕ
-priceCount c = c .resources + zonePriceCount * c .zones
+priceCount c = priceCountOf (c .resources) (c .zones)

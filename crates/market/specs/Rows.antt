@@ -45,9 +45,21 @@ limitRows c = across (λ i. map (Limited i) limits) (upto (c .resources))
 unfoldable pub rows : Case → List Row
 rows c = Balance ∷ (marketRows ++ (zoneRows c ++ (flowgateRows c ++ limitRows c)))
 
--- how many: row 1, one for each curve in the market and in each zone, one for each flowgate, a resource's own
+-- how many: row 1 and one for each curve, the same curves in each zone, one for each flowgate, a resource's own
+abbrev pub systemRowCount : ℕ
+systemRowCount = 1 + length curves
+
+abbrev pub zoneRowCount : ℕ
+zoneRowCount = length curves
+
+abbrev pub resourceRowCount : ℕ
+resourceRowCount = length limits
+
+abbrev pub rowCountOf : ℕ → ℕ → ℕ → ℕ
+rowCountOf r z f = systemRowCount + z * zoneRowCount + f + r * resourceRowCount
+
 abbrev pub rowCount : Case → ℕ
-rowCount c = 1 + length curves + c .zones * length curves + c .flowgates + c .resources * length limits
+rowCount c = rowCountOf (c .resources) (c .zones) (c .flowgates)
 
 -- row 1 is an equation, all others are 'at least'
 pub data Sense : Type 0 where

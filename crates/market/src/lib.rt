@@ -53,6 +53,27 @@ pub const FLOWGATE_PRICE_SIZE: usize = 4;
 
 pub const ENTRY_SIZE: usize = 40;
 
+// ---- how many rows, charges and prices there are
+// Row 1 with the market's reserve rows; a zone's reserve rows; a resource's own.
+pub const SYSTEM_ROWS: usize = 5;
+
+pub const ZONE_ROWS: usize = 4;
+
+pub const RESOURCE_ROWS: usize = 5;
+
+// What is priced: a resource's steps and reserves, and the steps of the curves.
+pub const RESOURCE_PRICED: usize = 14;
+
+pub const CURVE_PRICED: usize = 16;
+
+// A charge for each row and for all that is priced.
+pub const SYSTEM_CHARGES: usize = SYSTEM_ROWS + CURVE_PRICED;
+
+pub const RESOURCE_CHARGES: usize = RESOURCE_ROWS + RESOURCE_PRICED;
+
+// Regulating, spinning, supplemental, short-term.
+pub const ZONE_PRICES: usize = 4;
+
 // ---- where a part stands, after the others
 
 // Flowgate f of a case, after its zones and resources.

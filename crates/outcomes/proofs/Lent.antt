@@ -1,8 +1,8 @@
 -- Prices and charges for a lent buffer: what is answered, and what the buffer holds, where a ground of 1 to 14 holds, where 15
 -- does, and where none does.
-use mathlib.Core.Path.{_≡_, _∙_, sym}
+use mathlib.Core.Path.{_≡_, _∙_}
 use mathlib.Core.List.{List, [], _∷_, _++_}
-use Prim.Native.Nat.{ℕ, _+_, _*_, _<_, _≤_}
+use Prim.Native.Nat.{ℕ, _+_, _<_, _≤_}
 use native.Mathlib.Omega.{arith}
 use lib.IntN.{ℤ}
 use lib.ListN.{length, drop}
@@ -15,12 +15,11 @@ use Rattle.market.specs.CaseFile.{caseOf}
 use Rattle.market.specs.Certificate.{certificateOf}
 use Rattle.market.specs.Records.{countsIn}
 use Rattle.market.specs.Refusals.{Finding, clear, holds, firstOf, deliveryOf, bufferAfter}
-use Rattle.market.specs.Charges.{chargeCount}
-use Rattle.market.specs.Prices.{priceList, priceCount}
+use Rattle.market.specs.Charges.{chargeCount, chargeCountOf}
+use Rattle.market.specs.Prices.{priceList, priceCount, priceCountOf}
 use Rattle.market.specs.Outcome.{grounds, room, priceGrounds, priceAnswer, priceBuffer, chargeGrounds, chargeAnswer, chargeBuffer, listedCharges}
 use Rattle.market.proofs.LentBuffer.{refused-before, too-short, long-enough}
 use Rattle.market.proofs.Lengths.{charge-count, price-count}
-use Rattle.market.proofs.SizesInWords.{sizes-in-words}
 use Rattle.case_check.specs.declared.Stage.the-variants.{Refused}
 use Rattle.case_check.specs.Stages.{stageOf}
 use Rattle.case_check.proofs.Passing.{refused-holds}
@@ -42,11 +41,11 @@ module _ (gs : List Finding) (needed : ℕ) (new old : List ℤ) where
 
 -- ---- the two lists that an accepted certificate gives
 module _ (b q : List ℕ) (n : Counts) (h : AcceptedWith b q n) where
-  prices-needed : n .resources + 4 * n .zones ≡ priceCount (caseOf b)
+  prices-needed : priceCountOf (n .resources) (n .zones) ≡ priceCount (caseOf b)
   prices-needed = rw (h .counts)
 
-  charges-needed : 21 + 4 * n .zones + n .flowgates + 19 * n .resources ≡ chargeCount (caseOf b)
-  charges-needed = rw (h .counts) (sym (sizes-in-words .charge-count (caseOf b)))
+  charges-needed : chargeCountOf (n .resources) (n .zones) (n .flowgates) ≡ chargeCount (caseOf b)
+  charges-needed = rw (h .counts)
 
 module _ (b q : List ℕ) (old : List ℤ) where
   abbrev Prices : Delivery → List ℤ → Type 0
@@ -68,21 +67,21 @@ module _ (b q : List ℕ) (old : List ℤ) where
     charges-refused = numbers-refused (grounds b q) (chargeCount (caseOf b)) (listedCharges b q) old w first-is
 
   module _ (n : Counts) (h : AcceptedWith b q n) where
-    pub prices-short : length old < n .resources + 4 * n .zones → Prices (D.Refused R.BufferShort) old
+    pub prices-short : length old < priceCountOf (n .resources) (n .zones) → Prices (D.Refused R.BufferShort) old
     unfolding priceAnswer priceBuffer priceGrounds
     prices-short l = numbers-short (grounds b q) (priceCount (caseOf b)) (priceList (caseOf b) (certificateOf q .price)) old (h .none-holds) (omega (arith, prices-needed b q n h))
 
-    pub charges-short : length old < 21 + 4 * n .zones + n .flowgates + 19 * n .resources → Charges (D.Refused R.BufferShort) old
+    pub charges-short : length old < chargeCountOf (n .resources) (n .zones) (n .flowgates) → Charges (D.Refused R.BufferShort) old
     unfolding chargeAnswer chargeBuffer chargeGrounds
     charges-short l = numbers-short (grounds b q) (chargeCount (caseOf b)) (listedCharges b q) old (h .none-holds) (omega (arith, charges-needed b q n h))
 
-    pub prices-written : (out : List ℤ) → n .resources + 4 * n .zones ≤ length old → out ≡ priceList (caseOf b) (certificateOf q .price) ++ drop (priceCount (caseOf b)) old → Prices D.Delivered out
+    pub prices-written : (out : List ℤ) → priceCountOf (n .resources) (n .zones) ≤ length old → out ≡ priceList (caseOf b) (certificateOf q .price) ++ drop (priceCount (caseOf b)) old → Prices D.Delivered out
     unfolding priceAnswer priceBuffer priceGrounds
     prices-written out l e =
         let d = delivered (grounds b q) (priceCount (caseOf b)) (priceList (caseOf b) (certificateOf q .price)) old (h .none-holds) (omega (arith, prices-needed b q n h)) (price-count (caseOf b) (certificateOf q .price)) in
         (d .0, e ∙ d .1)
 
-    pub charges-written : (out : List ℤ) → 21 + 4 * n .zones + n .flowgates + 19 * n .resources ≤ length old → out ≡ listedCharges b q ++ drop (chargeCount (caseOf b)) old → Charges D.Delivered out
+    pub charges-written : (out : List ℤ) → chargeCountOf (n .resources) (n .zones) (n .flowgates) ≤ length old → out ≡ listedCharges b q ++ drop (chargeCount (caseOf b)) old → Charges D.Delivered out
     unfolding chargeAnswer chargeBuffer chargeGrounds
     charges-written out l e =
         let d = delivered (grounds b q) (chargeCount (caseOf b)) (listedCharges b q) old (h .none-holds) (omega (arith, charges-needed b q n h)) (charge-count (caseOf b) (certificateOf q .amount) (certificateOf q .price)) in

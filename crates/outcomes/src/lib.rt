@@ -6,8 +6,12 @@ use market::Delivery;
 use market::First;
 use market::Grains;
 use market::Outcome;
+use market::RESOURCE_CHARGES;
 use market::Refusal;
+use market::SYSTEM_CHARGES;
 use market::Valuation;
+use market::ZONE_PRICES;
+use market::ZONE_ROWS;
 ghost use mathlib.Core.Path.{_≡_};
 ghost use lib.ListN.{length};
 ghost use Rattle.market.specs.CaseFile.{caseOf};
@@ -77,7 +81,7 @@ fn hand_over_prices(b: &[u8], q: &[u8], n: Counts, out: &mut [i64]) -> Delivery
     requires { ⌜ AcceptedWith (now b) (now q) n ⌝ }
     ensures { λ r. ⌜ (r ≡ priceAnswer (now (b .entry)) (now (q .entry)) (length (now (out .entry)))) × (now (out .exit) ≡ priceBuffer (now (b .entry)) (now (q .entry)) (now (out .entry))) ⌝ }
 {
-    if out.len() < n.resources + 4 * n.zones {
+    if out.len() < n.resources + ZONE_PRICES * n.zones {
         return Delivery::Refused(Refusal::BufferShort);
     }
     price_list::write_prices(b, q, n.resources, n.zones, n.flowgates, out);
@@ -101,7 +105,9 @@ fn hand_over_charges(b: &[u8], q: &[u8], n: Counts, out: &mut [i64]) -> Delivery
     requires { ⌜ AcceptedWith (now b) (now q) n ⌝ }
     ensures { λ r. ⌜ (r ≡ chargeAnswer (now (b .entry)) (now (q .entry)) (length (now (out .entry)))) × (now (out .exit) ≡ chargeBuffer (now (b .entry)) (now (q .entry)) (now (out .entry))) ⌝ }
 {
-    if out.len() < 21 + 4 * n.zones + n.flowgates + 19 * n.resources {
+    if out.len()
+        < SYSTEM_CHARGES + ZONE_ROWS * n.zones + n.flowgates + RESOURCE_CHARGES * n.resources
+    {
         return Delivery::Refused(Refusal::BufferShort);
     }
     charges::write_charges(b, q, n.resources, n.zones, n.flowgates, out);

@@ -9,16 +9,16 @@ use Rattle.arith.specs.Sums.{upto, across}
 use Rattle.arith.proofs.Lists.{length-across, length-upto}
 use Rattle.market.specs.Case.{Case}
 use Rattle.market.specs.Certificate.{Prices}
-use Rattle.market.specs.Prices.{LMP, zonePrices, priceList, priceCount}
+use Rattle.market.specs.Prices.{LMP, zonePrices, priceList, priceCount, zonePriceCount, priceCountOf}
 
 pub lmp-count : (c : Case) (y : Prices) (n : ℕ) → length (map (LMP c y) (upto n)) ≡ n
 lmp-count c y n = length-map (upto n) (LMP c y) ∙ length-upto n
 
-pub zone-count : (y : Prices) (n : ℕ) → length (across (zonePrices y) (upto n)) ≡ 4 * n
-zone-count y n = omega (arith, length-across (zonePrices y) 4 (λ z. refl) (upto n), length-upto n)
+pub zone-count : (y : Prices) (n : ℕ) → length (across (zonePrices y) (upto n)) ≡ zonePriceCount * n
+zone-count y n = omega (arith, length-across (zonePrices y) zonePriceCount (λ z. refl) (upto n), length-upto n)
 
 -- both together
 pub prices-written : (c : Case) (y : Prices) {r z : ℕ} → r ≡ c .resources → z ≡ c .zones → (o : List ℤ)
-    → (map (LMP c y) (upto r) ++ across (zonePrices y) (upto z)) ++ drop (r + 4 * z) o ≡ priceList c y ++ drop (priceCount c) o
+    → (map (LMP c y) (upto r) ++ across (zonePrices y) (upto z)) ++ drop (priceCountOf r z) o ≡ priceList c y ++ drop (priceCount c) o
 unfolding priceList
 prices-written c y er ez o = rw (er, ez)

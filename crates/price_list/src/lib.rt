@@ -7,9 +7,10 @@ ghost use lib.ListN.{length, drop};
 ghost use Rattle.arith.specs.Sums.{upto, across};
 ghost use Rattle.market.specs.CaseFile.{caseOf};
 ghost use Rattle.market.specs.Certificate.{certificateOf};
-ghost use Rattle.market.specs.Prices.{LMP, zonePrices, priceList, priceCount};
+ghost use Rattle.market.specs.Prices.{LMP, zonePrices, priceList, zonePriceCount, priceCount, priceCountOf};
 ghost use Rattle.prices.specs.Standing.{PricesStand, Standing};
 ghost use Rattle.price_list.specs.Numbers.{numbersOf};
+use market::ZONE_PRICES;
 use prices::ZonePrices;
 
 // The LMP of each resource, in order.
@@ -28,8 +29,8 @@ fn write_lmps(b: &[u8], q: &[u8], r: usize, z: usize, f: usize, out: &mut [i64])
 
 // A zone's regulating, spinning, supplemental and short-term price.
 fn write_zone(p: ZonePrices, out: &mut [i64])
-    requires { ⌜ 4 ≤ length (now out) ⌝ }
-    ensures { λ _. ⌜ now (out .exit) ≡ numbersOf p ++ drop 4 (now (out .entry)) ⌝ }
+    requires { ⌜ zonePriceCount ≤ length (now out) ⌝ }
+    ensures { λ _. ⌜ now (out .exit) ≡ numbersOf p ++ drop zonePriceCount (now (out .entry)) ⌝ }
 {
     let regulating = p.regulating.0;
     let spinning = p.spinning.0;
@@ -43,21 +44,21 @@ fn write_zone(p: ZonePrices, out: &mut [i64])
 
 // Each zone's prices, from its own place on.
 fn write_zones(b: &[u8], q: &[u8], r: usize, z: usize, f: usize, out: &mut [i64])
-    requires { ⌜ PricesStand (now b) (now q) r z f × (4 * z ≤ length (now out)) ⌝ }
-    ensures { λ _. ⌜ now (out .exit) ≡ across (zonePrices (certificateOf (now (q .entry)) .price)) (upto z) ++ drop (4 * z) (now (out .entry)) ⌝ }
+    requires { ⌜ PricesStand (now b) (now q) r z f × (zonePriceCount * z ≤ length (now out)) ⌝ }
+    ensures { λ _. ⌜ now (out .exit) ≡ across (zonePrices (certificateOf (now (q .entry)) .price)) (upto z) ++ drop (zonePriceCount * z) (now (out .entry)) ⌝ }
 {
     let mut zone: usize = 0;
     let mut at: usize = 0;
     while zone < z {
         let p = prices::zone_prices(b, q, r, z, f, zone);
         write_zone(p, &mut out[at..]);
-        at += 4;
+        at += ZONE_PRICES;
         zone += 1;
     }
 }
 
 pub fn write_prices(b: &[u8], q: &[u8], r: usize, z: usize, f: usize, out: &mut [i64])
-    requires { ⌜ Standing (now b) (now q) r z f × (r + 4 * z ≤ length (now out)) ⌝ }
+    requires { ⌜ Standing (now b) (now q) r z f × (priceCountOf r z ≤ length (now out)) ⌝ }
     ensures { λ _. ⌜ now (out .exit) ≡ priceList (caseOf (now (b .entry))) (certificateOf (now (q .entry)) .price) ++ drop (priceCount (caseOf (now (b .entry)))) (now (out .entry)) ⌝ }
 {
     write_lmps(b, q, r, z, f, out);

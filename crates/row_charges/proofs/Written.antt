@@ -9,7 +9,7 @@ use borrow.Rule.Slice.PartMut.{putMid}
 use Rattle.arith.specs.Sums.{upto, across}
 use Rattle.arith.proofs.Lists.{length-across, length-upto, across-upto, map-upto}
 use Rattle.market.specs.Case.{Case, curves}
-use Rattle.market.specs.Rows.{Row, Balance, Zone, Flowgate, marketRows, zoneRows, flowgateRows, limitRows, rows}
+use Rattle.market.specs.Rows.{Row, Balance, Zone, Flowgate, marketRows, zoneRows, flowgateRows, limitRows, rows, systemRowCount, zoneRowCount, resourceRowCount, rowCountOf}
 use Rattle.arith.proofs.Buffers.{write-on, store-on}
 
 module _ (h : Row → ℤ) where
@@ -48,13 +48,13 @@ module _ (h : Row → ℤ) where
 
   -- ---- families together
   module _ (c : Case) where
-    pub zone-count : {z : ℕ} → z ≡ c .zones → length (map h (Balance ∷ marketRows) ++ map h (zoneRows c)) ≡ 5 + z * 4
+    pub zone-count : {z : ℕ} → z ≡ c .zones → length (map h (Balance ∷ marketRows) ++ map h (zoneRows c)) ≡ systemRowCount + z * zoneRowCount
     zone-count e =
         omega (
           arith,
           e,
           length-append (map h (Balance ∷ marketRows)) (map h (zoneRows c)),
-          block-count (λ y. map (Zone y) curves) 4 (λ y. refl) (c .zones),
+          block-count (λ y. map (Zone y) curves) zoneRowCount (λ y. refl) (c .zones),
         )
 
     pub flowgate-count : {f : ℕ} → f ≡ c .flowgates → length (map h (flowgateRows c)) ≡ f
@@ -67,8 +67,8 @@ module _ (h : Row → ℤ) where
         ∙ sym (map-append h ((Balance ∷ marketRows) ++ zoneRows c) (flowgateRows c ++ limitRows c))
         ∙ ap (map h) (append-assoc (Balance ∷ marketRows) (zoneRows c) (flowgateRows c ++ limitRows c))
 
-    pub all-written : (z f r : ℕ) (o : List ℤ) → ((map h (Balance ∷ marketRows) ++ map h (zoneRows c)) ++ map h (flowgateRows c ++ limitRows c)) ++ drop (5 + z * 4 + (f + r * 5)) o
-        ≡ map h (rows c) ++ drop (5 + z * 4 + f + r * 5) o
+    pub all-written : (z f r : ℕ) (o : List ℤ) → ((map h (Balance ∷ marketRows) ++ map h (zoneRows c)) ++ map h (flowgateRows c ++ limitRows c)) ++ drop (systemRowCount + z * zoneRowCount + (f + r * resourceRowCount)) o
+        ≡ map h (rows c) ++ drop (rowCountOf r z f) o
     all-written z f r o =
-        let e : 5 + z * 4 + (f + r * 5) ≡ 5 + z * 4 + f + r * 5 = omega arith in
-        ap (λ (l : List ℤ). l ++ drop (5 + z * 4 + (f + r * 5)) o) all-rows ∙ ap (λ (n : ℕ). map h (rows c) ++ drop n o) e
+        let e : systemRowCount + z * zoneRowCount + (f + r * resourceRowCount) ≡ rowCountOf r z f = omega arith in
+        ap (λ (l : List ℤ). l ++ drop (systemRowCount + z * zoneRowCount + (f + r * resourceRowCount)) o) all-rows ∙ ap (λ (n : ℕ). map h (rows c) ++ drop n o) e

@@ -8,7 +8,7 @@ ghost use lib.IntN.{_-ℤ_, _*ℤ_};
 ghost use lib.ListN.{length, drop};
 ghost use Rattle.market.specs.Case.{curves};
 ghost use Rattle.market.specs.CaseFile.{caseOf};
-ghost use Rattle.market.specs.Rows.{Balance, Zone, Flowgate, Limited, limits, marketRows, zoneRows, flowgateRows, limitRows, rows};
+ghost use Rattle.market.specs.Rows.{Balance, Zone, Flowgate, Limited, limits, marketRows, zoneRows, flowgateRows, limitRows, rows, systemRowCount, zoneRowCount, resourceRowCount, rowCountOf};
 ghost use Rattle.market.specs.Certificate.{certificateOf};
 ghost use Rattle.market.specs.Charges.{rowCharge};
 ghost use Rattle.market.specs.Records.{grains};
@@ -23,7 +23,10 @@ use market::Kw;
 use market::LimitPrices;
 use market::MOST_ZONES;
 use market::Millicents;
+use market::RESOURCE_ROWS;
 use market::ReservePrices;
+use market::SYSTEM_ROWS;
+use market::ZONE_ROWS;
 
 // The price of a row times its slack, which is one side less the other.
 fn charge(price: Millicents, more: Kw, less: Kw) -> Grains
@@ -51,8 +54,8 @@ fn write_balance(b: &[u8], q: &[u8], r: usize, z: usize, f: usize, out: &mut [i6
 
 // Of four reserve rows: what they have less what they need.
 fn write_four(prices: ReservePrices, have: CurveAmounts, need: CurveAmounts, out: &mut [i64])
-    requires { ⌜ FourRoom prices have need × (4 ≤ length (now out)) ⌝ }
-    ensures { λ _. ⌜ now (out .exit) ≡ fourCharges prices have need ++ drop 4 (now (out .entry)) ⌝ }
+    requires { ⌜ FourRoom prices have need × (zoneRowCount ≤ length (now out)) ⌝ }
+    ensures { λ _. ⌜ now (out .exit) ≡ fourCharges prices have need ++ drop zoneRowCount (now (out .entry)) ⌝ }
 {
     let operating = charge(prices.operating, have.operating, need.operating);
     let both = charge(
@@ -82,9 +85,9 @@ fn write_market(
     have: CurveAmounts,
     out: &mut [i64],
 )
-    requires { ⌜ Standing (now b) (now q) r z f × (4 ≤ length (now out)) ⌝ }
+    requires { ⌜ Standing (now b) (now q) r z f × (zoneRowCount ≤ length (now out)) ⌝ }
     requires { ⌜ have ≡ marketTotal (now b) (now q) r ⌝ }
-    ensures { λ _. ⌜ now (out .exit) ≡ map (rowChargeIn (now (b .entry)) (now (q .entry))) marketRows ++ drop 4 (now (out .entry)) ⌝ }
+    ensures { λ _. ⌜ now (out .exit) ≡ map (rowChargeIn (now (b .entry)) (now (q .entry))) marketRows ++ drop zoneRowCount (now (out .entry)) ⌝ }
 {
     let prices = certificate_records::market_prices(q, r, z, f);
     let need = certificate_records::cleared(q, r, z, f);
@@ -101,9 +104,9 @@ fn write_system(
     have: CurveAmounts,
     out: &mut [i64],
 )
-    requires { ⌜ Standing (now b) (now q) r z f × (5 ≤ length (now out)) ⌝ }
+    requires { ⌜ Standing (now b) (now q) r z f × (systemRowCount ≤ length (now out)) ⌝ }
     requires { ⌜ have ≡ marketTotal (now b) (now q) r ⌝ }
-    ensures { λ _. ⌜ now (out .exit) ≡ map (rowChargeIn (now (b .entry)) (now (q .entry))) (Balance ∷ marketRows) ++ drop 5 (now (out .entry)) ⌝ }
+    ensures { λ _. ⌜ now (out .exit) ≡ map (rowChargeIn (now (b .entry)) (now (q .entry))) (Balance ∷ marketRows) ++ drop systemRowCount (now (out .entry)) ⌝ }
 {
     write_balance(b, q, r, z, f, out);
     write_market(b, q, r, z, f, have, &mut out[1..]);
@@ -122,9 +125,9 @@ fn write_zone(
     have: CurveAmounts,
     out: &mut [i64],
 )
-    requires { ⌜ Standing (now b) (now q) r z f × ((zone < z) × (4 ≤ length (now out))) ⌝ }
+    requires { ⌜ Standing (now b) (now q) r z f × ((zone < z) × (zoneRowCount ≤ length (now out))) ⌝ }
     requires { ⌜ have ≡ zoneTotal (now b) (now q) r zone ⌝ }
-    ensures { λ _. ⌜ now (out .exit) ≡ map (rowChargeIn (now (b .entry)) (now (q .entry))) (map (Zone zone) curves) ++ drop 4 (now (out .entry)) ⌝ }
+    ensures { λ _. ⌜ now (out .exit) ≡ map (rowChargeIn (now (b .entry)) (now (q .entry))) (map (Zone zone) curves) ++ drop zoneRowCount (now (out .entry)) ⌝ }
 {
     let prices = certificate_records::zone_prices_at(q, r, z, f, zone);
     let need = rows::required(b, r, z, f, zone);
@@ -141,15 +144,15 @@ fn write_zones(
     have: [CurveAmounts; MOST_ZONES],
     out: &mut [i64],
 )
-    requires { ⌜ Standing (now b) (now q) r z f × (z * 4 ≤ length (now out)) ⌝ }
+    requires { ⌜ Standing (now b) (now q) r z f × (z * zoneRowCount ≤ length (now out)) ⌝ }
     requires { ⌜ have ≡ zoneTotals (now b) (now q) r ⌝ }
-    ensures { λ _. ⌜ now (out .exit) ≡ map (rowChargeIn (now (b .entry)) (now (q .entry))) (zoneRows (caseOf (now (b .entry)))) ++ drop (z * 4) (now (out .entry)) ⌝ }
+    ensures { λ _. ⌜ now (out .exit) ≡ map (rowChargeIn (now (b .entry)) (now (q .entry))) (zoneRows (caseOf (now (b .entry)))) ++ drop (z * zoneRowCount) (now (out .entry)) ⌝ }
 {
     let mut zone: usize = 0;
     let mut at: usize = 0;
     while zone < z {
         write_zone(b, q, r, z, f, zone, have[zone], &mut out[at..]);
-        at += 4;
+        at += ZONE_ROWS;
         zone += 1;
     }
 }
@@ -186,8 +189,8 @@ fn write_flowgates(b: &[u8], q: &[u8], r: usize, z: usize, f: usize, out: &mut [
 
 // MAX - (e+g+c), MAX - (e+s), e-g - MIN, HI - e, e - LO.
 fn write_five(prices: LimitPrices, a: Amounts, l: ResourceLimits, out: &mut [i64])
-    requires { ⌜ FiveRoom prices a l × (5 ≤ length (now out)) ⌝ }
-    ensures { λ _. ⌜ now (out .exit) ≡ fiveCharges prices a l ++ drop 5 (now (out .entry)) ⌝ }
+    requires { ⌜ FiveRoom prices a l × (resourceRowCount ≤ length (now out)) ⌝ }
+    ensures { λ _. ⌜ now (out .exit) ≡ fiveCharges prices a l ++ drop resourceRowCount (now (out .entry)) ⌝ }
 {
     let up = units::kw_sum(a.energy, a.regulation);
     let with_reserve = units::kw_sum(up, a.contingency);
@@ -211,8 +214,8 @@ fn write_five(prices: LimitPrices, a: Amounts, l: ResourceLimits, out: &mut [i64
 }
 
 fn write_resource(b: &[u8], q: &[u8], r: usize, z: usize, f: usize, i: usize, out: &mut [i64])
-    requires { ⌜ Standing (now b) (now q) r z f × ((i < r) × (5 ≤ length (now out))) ⌝ }
-    ensures { λ _. ⌜ now (out .exit) ≡ map (rowChargeIn (now (b .entry)) (now (q .entry))) (map (Limited i) limits) ++ drop 5 (now (out .entry)) ⌝ }
+    requires { ⌜ Standing (now b) (now q) r z f × ((i < r) × (resourceRowCount ≤ length (now out))) ⌝ }
+    ensures { λ _. ⌜ now (out .exit) ≡ map (rowChargeIn (now (b .entry)) (now (q .entry))) (map (Limited i) limits) ++ drop resourceRowCount (now (out .entry)) ⌝ }
 {
     let prices = certificate_records::limit_prices_at(q, r, z, f, i);
     let resource = case_reader::resource_at(b, r, z, f, i);
@@ -223,14 +226,14 @@ fn write_resource(b: &[u8], q: &[u8], r: usize, z: usize, f: usize, i: usize, ou
 
 // Each resource's, from its own place on.
 fn write_resources(b: &[u8], q: &[u8], r: usize, z: usize, f: usize, out: &mut [i64])
-    requires { ⌜ Standing (now b) (now q) r z f × (r * 5 ≤ length (now out)) ⌝ }
-    ensures { λ _. ⌜ now (out .exit) ≡ map (rowChargeIn (now (b .entry)) (now (q .entry))) (limitRows (caseOf (now (b .entry)))) ++ drop (r * 5) (now (out .entry)) ⌝ }
+    requires { ⌜ Standing (now b) (now q) r z f × (r * resourceRowCount ≤ length (now out)) ⌝ }
+    ensures { λ _. ⌜ now (out .exit) ≡ map (rowChargeIn (now (b .entry)) (now (q .entry))) (limitRows (caseOf (now (b .entry)))) ++ drop (r * resourceRowCount) (now (out .entry)) ⌝ }
 {
     let mut i: usize = 0;
     let mut at: usize = 0;
     while i < r {
         write_resource(b, q, r, z, f, i, &mut out[at..]);
-        at += 5;
+        at += RESOURCE_ROWS;
         i += 1;
     }
 }
@@ -239,21 +242,21 @@ fn write_resources(b: &[u8], q: &[u8], r: usize, z: usize, f: usize, out: &mut [
 
 // Flowgates' and resources'.
 fn write_network(b: &[u8], q: &[u8], r: usize, z: usize, f: usize, out: &mut [i64])
-    requires { ⌜ Standing (now b) (now q) r z f × (f + r * 5 ≤ length (now out)) ⌝ }
-    ensures { λ _. ⌜ now (out .exit) ≡ map (rowChargeIn (now (b .entry)) (now (q .entry))) (flowgateRows (caseOf (now (b .entry))) ++ limitRows (caseOf (now (b .entry)))) ++ drop (f + r * 5) (now (out .entry)) ⌝ }
+    requires { ⌜ Standing (now b) (now q) r z f × (f + r * resourceRowCount ≤ length (now out)) ⌝ }
+    ensures { λ _. ⌜ now (out .exit) ≡ map (rowChargeIn (now (b .entry)) (now (q .entry))) (flowgateRows (caseOf (now (b .entry))) ++ limitRows (caseOf (now (b .entry)))) ++ drop (f + r * resourceRowCount) (now (out .entry)) ⌝ }
 {
     write_flowgates(b, q, r, z, f, out);
     write_resources(b, q, r, z, f, &mut out[f..]);
 }
 
 pub fn write_row_charges(b: &[u8], q: &[u8], r: usize, z: usize, f: usize, out: &mut [i64])
-    requires { ⌜ Standing (now b) (now q) r z f × (5 + z * 4 + f + r * 5 ≤ length (now out)) ⌝ }
-    ensures { λ _. ⌜ now (out .exit) ≡ map (rowCharge (caseOf (now (b .entry))) (certificateOf (now (q .entry)) .amount) (certificateOf (now (q .entry)) .price)) (rows (caseOf (now (b .entry)))) ++ drop (5 + z * 4 + f + r * 5) (now (out .entry)) ⌝ }
+    requires { ⌜ Standing (now b) (now q) r z f × (rowCountOf r z f ≤ length (now out)) ⌝ }
+    ensures { λ _. ⌜ now (out .exit) ≡ map (rowCharge (caseOf (now (b .entry))) (certificateOf (now (q .entry)) .amount) (certificateOf (now (q .entry)) .price)) (rows (caseOf (now (b .entry)))) ++ drop (rowCountOf r z f) (now (out .entry)) ⌝ }
 {
-    let at = 5 + z * 4;
+    let at = SYSTEM_ROWS + z * ZONE_ROWS;
     let have = reserves::totals(b, q, r, z, f);
     let in_zones = have.zones;
     write_system(b, q, r, z, f, have.market, out);
-    write_zones(b, q, r, z, f, in_zones, &mut out[5..]);
+    write_zones(b, q, r, z, f, in_zones, &mut out[SYSTEM_ROWS..]);
     write_network(b, q, r, z, f, &mut out[at..]);
 }

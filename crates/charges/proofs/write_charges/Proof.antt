@@ -7,8 +7,8 @@ use borrow.Author.Needs.{needs}
 use Rattle.market.specs.CaseFile.{caseOf}
 use Rattle.market.specs.Certificate.{certificateOf}
 use Rattle.market.specs.Charges.{rowCharge}
-use Rattle.market.specs.Cost.{priced}
-use Rattle.market.specs.Rows.{rows}
+use Rattle.market.specs.Cost.{priced, pricedCountOf}
+use Rattle.market.specs.Rows.{rows, rowCountOf}
 use Rattle.arith.proofs.Buffers.{write-on}
 use Rattle.charges.specs.Terms.{chargeIn}
 use Rattle.charges.proofs.Known.{rows-counted, charges-listed}
@@ -21,8 +21,8 @@ returns c =
     let b = s .args .b .now in
     let q = s .args .q .now in
     let o = s .args .out .now in
-    let at = 5 + s .args .z * 4 + s .args .f + s .args .r * 5 in
-    write-on (map (rowCharge (caseOf b) (certificateOf q .amount) (certificateOf q .price)) (rows (caseOf b))) (map (chargeIn b q) (priced (caseOf b))) o (c .before .before .before .before .write-row-charges .last .1 .1 .1 .1 .1 .0) (c .before .write-priced-charges .last .1 .1 .1 .1 .1 .0) at (s .args .r * 14 + 16) at (rows-counted (s .pre .0)) refl (omega arith) (c .before .before .before .before .write-row-charges .ensures) (c .before .write-priced-charges .ensures)
+    let at = rowCountOf (s .args .r) (s .args .z) (s .args .f) in
+    write-on (map (rowCharge (caseOf b) (certificateOf q .amount) (certificateOf q .price)) (rows (caseOf b))) (map (chargeIn b q) (priced (caseOf b))) o (c .before .before .before .before .write-row-charges .last .1 .1 .1 .1 .1 .0) (c .before .write-priced-charges .last .1 .1 .1 .1 .1 .0) at (pricedCountOf (s .args .r)) at (rows-counted (s .pre .0)) refl (omega arith) (c .before .before .before .before .write-row-charges .ensures) (c .before .write-priced-charges .ensures)
     ∙ charges-listed (s .pre .0) o
 
 pub write-charges-spec : {M : Type 1} → statement M

@@ -6,6 +6,7 @@ use native.Mathlib.Omega.{arith}
 use lib.ListN.{length, drop}
 use lib.IntN.{ℤ, natAbs}
 use borrow.Author.Needs.{needs}
+use Rattle.market.specs.Cost.{resourcePricedCount}
 use Rattle.arith.specs.Sums.{upto}
 use Rattle.market.specs.Records.{recordOf, offerStepsOf}
 use Rattle.market.specs.CaseFile.{caseOf}
@@ -31,7 +32,7 @@ steps : (c : tie.After-offer-steps-at) →
 steps c = c .offer-steps-at .ensures
 
 -- behind the steps there is room for the reserves
-room : (c : tie.After-write-steps) → 14 ≤ length (c .write-steps .last .1 .1 .1 .1 .0)
+room : (c : tie.After-write-steps) → resourcePricedCount ≤ length (c .write-steps .last .1 .1 .1 .1 .0)
 room c = let s = c .before .before .before .before .before .before .before .before .before .before in omega (arith, c .write-steps .kept .1 .1 .1 .1 .0, s .pre .1)
 
 behind : (c : tie.After-write-steps) → 10 ≤ length (c .write-steps .last .1 .1 .1 .1 .0)
@@ -94,7 +95,7 @@ returns c =
     let o = s .args .out .now in
     let g = energyCharge (n .result) (on .result) p (natAbs (a .result .energy .0)) in
     write-on (map g (upto 10)) (reserveCharges (n .result) (a .result) (u .result)) o (w .last .1 .1 .1 .1 .0) (x .last .1 .1 .1 .0) 10 4 10 (numbers-count g 10) refl (omega arith) (w .ensures) (x .ensures)
-    ∙ ap (λ (l : List ℤ). l ++ drop 14 o) (resource-listed (s .pre .0 .0) (s .pre .0 .1) (n .ensures) (on .ensures figures ev) ep (a .ensures) (u .ensures figures (on .ensures figures ev) ev))
+    ∙ ap (λ (l : List ℤ). l ++ drop resourcePricedCount o) (resource-listed (s .pre .0 .0) (s .pre .0 .1) (n .ensures) (on .ensures figures ev) ep (a .ensures) (u .ensures figures (on .ensures figures ev) ev))
 
 pub write-resource-spec : {M : Type 1} → statement M
 write-resource-spec =

@@ -1,5 +1,5 @@
 -- `charges::write_resources` meets its contract.
--- The loop's invariant: the charges of the resources passed stand in front, fourteen each, the rest is untouched; the measure is the resources to go.
+-- The loop's invariant: the charges of the resources passed stand in front, as many of each, the rest is untouched; the measure is the resources to go.
 use mathlib.Core.Path.{_≡_, _∙_}
 use mathlib.Core.List.{_++_}
 use Prim.Native.Nat.{_+_, _*_, _-_, _≤_}
@@ -7,6 +7,7 @@ use native.Mathlib.Omega.{arith}
 use lib.ListN.{length, drop}
 use borrow.Author.Needs.{needs}
 use borrow.Rule.Slice.PartMut.{same-len-mid}
+use Rattle.market.specs.Cost.{resourcePricedCount}
 use Rattle.arith.proofs.Lists.{across-upto}
 use Rattle.arith.specs.Sums.{upto, across}
 use Rattle.arith.proofs.Buffers.{rest-length, write-on}
@@ -16,7 +17,7 @@ use Rattle.charges.proofs.write_resources.Statement.{statement}
 use Rattle.charges.proofs.write_resources.Tie as tie
 
 abbrev Inv-loop : tie.InvT-loop
-Inv-loop b q r z f out₀ i₀ at₀ out i at = (i ≤ r) × (at ≡ i * 14) × (length out ≡ length out₀) × (out ≡ across (resourceCharges b q) (upto i) ++ drop (i * 14) out₀)
+Inv-loop b q r z f out₀ i₀ at₀ out i at = (i ≤ r) × (at ≡ i * resourcePricedCount) × (length out ≡ length out₀) × (out ≡ across (resourceCharges b q) (upto i) ++ drop (i * resourcePricedCount) out₀)
 
 abbrev μ-loop : tie.MeasureT-loop
 μ-loop b q r z f out₀ i₀ at₀ out i at = r - i
@@ -34,12 +35,12 @@ loop-again c =
     let k = c .before .before .before .before .loop in
     let g = resourceCharges (s .args .b .now) (s .args .q .now) in
     let last = c .before .write-resource .last .1 .1 .1 .1 .1 .1 .0 in
-    let e : k .i * 14 + 14 ≡ (k .i + 1) * 14 = omega arith in (
+    let e : k .i * resourcePricedCount + resourcePricedCount ≡ (k .i + 1) * resourcePricedCount = omega arith in (
       omega arith,
       omega arith,
       same-len-mid (k .at) (length (k .out) - k .at) (k .out) last (c .before .write-resource .kept .1 .1 .1 .1 .1 .1 .0) ∙ k .inv .2,
       rw (across-upto g (k .i), ← e)
-          (write-on (across g (upto (k .i))) (g (k .i)) (s .args .out .now) (k .out) last (k .i * 14) 14 (k .at) (resources-count (s .args .b .now) (s .args .q .now) (k .i)) (omega arith) (omega arith) (k .inv .3) (c .before .write-resource .ensures)),
+          (write-on (across g (upto (k .i))) (g (k .i)) (s .args .out .now) (k .out) last (k .i * resourcePricedCount) resourcePricedCount (k .at) (resources-count (s .args .b .now) (s .args .q .now) (k .i)) (omega arith) (omega arith) (k .inv .3) (c .before .write-resource .ensures)),
     )
 
 returns : tie.Need-returns Inv-loop μ-loop

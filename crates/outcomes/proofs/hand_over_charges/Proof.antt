@@ -22,7 +22,7 @@ add-if1-3 : tie.Need-add-if1-3
 add-if1-3 c = let s = c .before .before .before .before .before in let k = all-standing (s .args .b .now) (s .args .q .now) (s .args .n) (s .pre) .prices .case-bytes in omega (arith, k .counts .most-resources, k .counts .most-zones, k .counts .most-flowgates)
 
 returns : tie.Need-returns
-returns c = let s = c .before .before .before .before .before .before in charges-short (s .args .b .now) (s .args .q .now) (s .args .out .now) (s .args .n) (s .pre) (c .if1 .taken)
+returns c = let s = c .before .before .before .before .before .before in charges-short (s .args .b .now) (s .args .q .now) (s .args .out .now) (s .args .n) (s .pre) (omega (arith, c .if1 .taken))
 
 write-charges-requires : tie.Need-write-charges-requires
 write-charges-requires c κs = let s = c .before .before .before .before .before .before .before in (all-standing (s .args .b .now) (s .args .q .now) (s .args .n) (s .pre), omega arith)

@@ -5,7 +5,7 @@ use Prim.Native.Nat.{_*_}
 use native.Mathlib.Omega.{arith}
 use borrow.Author.Needs.{needs}
 use Rattle.arith.specs.Sums.{upto, across}
-use Rattle.market.specs.Prices.{LMP, zonePrices}
+use Rattle.market.specs.Prices.{LMP, zonePrices, zonePriceCount}
 use Rattle.market.specs.Certificate.{certificateOf}
 use Rattle.market.specs.CaseFile.{caseOf}
 use Rattle.case_records.proofs.Places.{resources-is, zones-is}
@@ -18,7 +18,7 @@ returns : tie.Need-returns
 returns c = let s = c .before .before .before .before .before .before .before .before in
     let cs = caseOf (s .args .b .now) in
     let y = certificateOf (s .args .q .now) .price in
-    write-on (map (LMP cs y) (upto (s .args .r))) (across (zonePrices y) (upto (s .args .z))) (s .args .out .now) (c .before .before .before .before .write-lmps .last .1 .1 .1 .1 .1 .0) (c .before .write-zones .last .1 .1 .1 .1 .1 .0) (s .args .r) (4 * s .args .z) (s .args .r) (lmp-count cs y (s .args .r)) refl (omega arith) (c .before .before .before .before .write-lmps .ensures) (c .before .write-zones .ensures)
+    write-on (map (LMP cs y) (upto (s .args .r))) (across (zonePrices y) (upto (s .args .z))) (s .args .out .now) (c .before .before .before .before .write-lmps .last .1 .1 .1 .1 .1 .0) (c .before .write-zones .last .1 .1 .1 .1 .1 .0) (s .args .r) (zonePriceCount * s .args .z) (s .args .r) (lmp-count cs y (s .args .r)) refl (omega arith) (c .before .before .before .before .write-lmps .ensures) (c .before .write-zones .ensures)
     ∙ prices-written cs y (resources-is (s .pre .0 .prices .case-bytes)) (zones-is (s .pre .0 .prices .case-bytes)) (s .args .out .now)
 
 pub write-prices-spec : {M : Type 1} → statement M

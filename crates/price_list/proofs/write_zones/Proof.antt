@@ -9,7 +9,7 @@ use borrow.Rule.Slice.PartMut.{same-len-mid}
 use borrow.Author.Needs.{needs}
 use Rattle.arith.specs.Sums.{upto, across}
 use Rattle.arith.proofs.Lists.{across-upto}
-use Rattle.market.specs.Prices.{zonePrices}
+use Rattle.market.specs.Prices.{zonePrices, zonePriceCount}
 use Rattle.market.specs.Certificate.{certificateOf}
 use Rattle.prices.specs.ZonePrices.{zonePricesOf}
 use Rattle.price_list.proofs.Written.{zone-count}
@@ -18,7 +18,7 @@ use Rattle.price_list.proofs.write_zones.Statement.{statement}
 use Rattle.price_list.proofs.write_zones.Tie as tie
 
 abbrev Inv-loop : tie.InvT-loop
-Inv-loop b q r z f out₀ zone₀ at₀ out zone at = (zone ≤ z) × (at ≡ 4 * zone) × (length out ≡ length out₀) × (out ≡ across (zonePrices (certificateOf q .price)) (upto zone) ++ drop (4 * zone) out₀)
+Inv-loop b q r z f out₀ zone₀ at₀ out zone at = (zone ≤ z) × (at ≡ zonePriceCount * zone) × (length out ≡ length out₀) × (out ≡ across (zonePrices (certificateOf q .price)) (upto zone) ++ drop (zonePriceCount * zone) out₀)
 
 abbrev μ-loop : tie.MeasureT-loop
 μ-loop b q r z f out₀ zone₀ at₀ out zone at = z - zone
@@ -38,7 +38,7 @@ written : (c : tie.After-write-zone Inv-loop μ-loop) →
     let s = c .before .before .before .before .before .before .before in
     let out = c .before .before .before .before .loop .out in
     let at = c .before .before .before .before .loop .at in
-    c .write-zone .last .1 .0 ≡ zonePrices (certificateOf (s .args .q .now) .price) (c .before .before .before .before .loop .zone) ++ drop 4 (take (length out - at) (drop at out))
+    c .write-zone .last .1 .0 ≡ zonePrices (certificateOf (s .args .q .now) .price) (c .before .before .before .before .loop .zone) ++ drop zonePriceCount (take (length out - at) (drop at out))
 unfolding zonePricesOf
 written c = c .write-zone .ensures ∙ rw (c .before .before .zone-prices .ensures)
 
@@ -48,12 +48,12 @@ loop-again c = let s = c .before .before .before .before .before .before .before
     let at = c .before .before .before .before .before .loop .at in
     let out = c .before .before .before .before .before .loop .out in
     let y = certificateOf (s .args .q .now) .price in
-    let e : 4 * zone + 4 ≡ 4 * (zone + 1) = omega arith in (
+    let e : zonePriceCount * zone + zonePriceCount ≡ zonePriceCount * (zone + 1) = omega arith in (
       omega arith,
       omega arith,
       same-len-mid at (length out - at) out (c .before .write-zone .last .1 .0) (c .before .write-zone .kept .1 .0) ∙ c .before .before .before .before .before .loop .inv .2,
       rw (across-upto (zonePrices y) zone, ← e)
-          (write-on (across (zonePrices y) (upto zone)) (zonePrices y zone) (s .args .out .now) out (c .before .write-zone .last .1 .0) (4 * zone) 4 at (zone-count y zone) (omega arith) (omega arith) (c .before .before .before .before .before .loop .inv .3) (written (c .before))),
+          (write-on (across (zonePrices y) (upto zone)) (zonePrices y zone) (s .args .out .now) out (c .before .write-zone .last .1 .0) (zonePriceCount * zone) zonePriceCount at (zone-count y zone) (omega arith) (omega arith) (c .before .before .before .before .before .loop .inv .3) (written (c .before))),
     )
 
 returns : tie.Need-returns Inv-loop μ-loop

@@ -4,6 +4,7 @@ use mathlib.Core.Path.{ap, _∙_}
 use lib.IntN.{ℤ}
 use lib.ListN.{drop}
 use borrow.Author.Needs.{needs}
+use Rattle.market.specs.Rows.{zoneRowCount}
 use Rattle.market.specs.CaseFile.{caseOf}
 use Rattle.market.specs.Certificate.{certificateOf}
 use Rattle.case_records.proofs.Places.{resources-is}
@@ -24,7 +25,7 @@ returns c =
     let s = c .before .before .before .before .before .before .before in
     c .before .write-four .ensures
     ∙ rw (c .before .before .before .before .market-prices .ensures, s .pre .1, c .before .before .before .cleared .ensures)
-    (ap (λ (l : List ℤ). l ++ drop 4 (s .args .out .now)) (market-charges (caseOf (s .args .b .now)) (certificateOf (s .args .q .now) .amount) (certificateOf (s .args .q .now) .price) (s .args .r) (resources-is (s .pre .0 .0 .prices .case-bytes))))
+    (ap (λ (l : List ℤ). l ++ drop zoneRowCount (s .args .out .now)) (market-charges (caseOf (s .args .b .now)) (certificateOf (s .args .q .now) .amount) (certificateOf (s .args .q .now) .price) (s .args .r) (resources-is (s .pre .0 .0 .prices .case-bytes))))
 
 pub write-market-spec : {M : Type 1} → statement M
 write-market-spec =
