@@ -7,6 +7,15 @@ ghost use Rattle.market.specs.CaseCheck.{CountsWithin};
 ghost use Rattle.market.specs.Certificate.{amountsPlace, certificateSize};
 ghost use Rattle.market.specs.Refusals.{numberOf, placeOf};
 
+// ---- how many of each kind document 01 has: demand curves and the steps of one, energy steps and services of a resource
+pub const CURVES: usize = 4;
+
+pub const CURVE_STEPS: usize = 4;
+
+pub const ENERGY_STEPS: usize = 10;
+
+pub const SERVICES: usize = 5;
+
 // ---- limits, and the sizes of the two files' parts in bytes
 pub const MOST_RESOURCES: usize = 64;
 
@@ -33,7 +42,7 @@ pub const OFFER_WIDTHS: usize = 74;
 
 pub const OFFER_PRICES: usize = OFFER_WIDTHS + 4;
 
-pub const CURVE_SIZE: usize = 4 * STEP_SIZE;
+pub const CURVE_SIZE: usize = CURVE_STEPS * STEP_SIZE;
 
 pub const CURVE_WIDTHS: usize = 42;
 
@@ -55,16 +64,16 @@ pub const ENTRY_SIZE: usize = 40;
 
 // ---- how many rows, charges and prices there are
 // Row 1 with the market's reserve rows; a zone's reserve rows; a resource's own.
-pub const SYSTEM_ROWS: usize = 5;
+pub const SYSTEM_ROWS: usize = 1 + CURVES;
 
-pub const ZONE_ROWS: usize = 4;
+pub const ZONE_ROWS: usize = CURVES;
 
 pub const RESOURCE_ROWS: usize = 5;
 
-// What is priced: a resource's steps and reserves, and the steps of the curves.
-pub const RESOURCE_PRICED: usize = 14;
+// What is priced: a resource's steps and its services but energy, and the steps of the curves.
+pub const RESOURCE_PRICED: usize = ENERGY_STEPS + SERVICES - 1;
 
-pub const CURVE_PRICED: usize = 16;
+pub const CURVE_PRICED: usize = CURVES * CURVE_STEPS;
 
 // A charge for each row and for all that is priced.
 pub const SYSTEM_CHARGES: usize = SYSTEM_ROWS + CURVE_PRICED;
@@ -294,11 +303,11 @@ pub struct Step {
 }
 
 pub struct OfferSteps {
-    pub of: [Step; 10],
+    pub of: [Step; ENERGY_STEPS],
 }
 
 pub struct CurveSteps {
-    pub of: [Step; 4],
+    pub of: [Step; CURVE_STEPS],
 }
 
 // A resource's record, read by value. `trip` is the time since the last trip, 255 for none.

@@ -6,6 +6,7 @@ use Prim.Native.Nat.{ℕ, suc, _+_, _*_, _<_}
 use native.Mathlib.Numerals.{add-one}
 use native.Mathlib.Omega.{arith}
 use lib.ListN.{length}
+use Rattle.quantities.specs.Places.{firstProvided, placesEach}
 use Rattle.arith.specs.Sums.{upto, across}
 use Rattle.market.specs.declared.First.{First}
 use Rattle.market.specs.declared.First.the-variants.{None, At}
@@ -99,23 +100,23 @@ module _ (t : Quantity → Bool) where
 
 -- ---- resource by resource, from place 5 on
 module _ (t : Quantity → Bool) where
-  pub none-yet : firstFailing t AboveBound 5 (across provided (upto 0)) ≡ clear
+  pub none-yet : firstFailing t AboveBound firstProvided (across provided (upto 0)) ≡ clear
   unfolding upto across
   none-yet = first-none t AboveBound 5
 
-  block : (i place : ℕ) → place ≡ 5 + i * 5 → firstFailing t AboveBound 5 (across provided (upto i)) ≡ clear → firstFailing t AboveBound 5 (across provided (upto (suc i))) ≡ firstFailing t AboveBound place (provided i)
+  block : (i place : ℕ) → place ≡ firstProvided + i * placesEach → firstFailing t AboveBound firstProvided (across provided (upto i)) ≡ clear → firstFailing t AboveBound firstProvided (across provided (upto (suc i))) ≡ firstFailing t AboveBound place (provided i)
   block i place e h = first-blocks t AboveBound provided 5 five 5 i ∙ rw (h, e)
 
-  pub still-none : (i place : ℕ) (p : First) → place ≡ 5 + i * 5 → firstFailing t AboveBound 5 (across provided (upto i)) ≡ clear → foundAt AboveBound p ≡ firstFailing t AboveBound place (provided i) → p ≡ None → firstFailing t AboveBound 5 (across provided (upto (i + 1))) ≡ clear
+  pub still-none : (i place : ℕ) (p : First) → place ≡ firstProvided + i * placesEach → firstFailing t AboveBound firstProvided (across provided (upto i)) ≡ clear → foundAt AboveBound p ≡ firstFailing t AboveBound place (provided i) → p ≡ None → firstFailing t AboveBound firstProvided (across provided (upto (i + 1))) ≡ clear
   still-none i place p e h k z = rw add-one (block i place e h ∙ sym k ∙ ap (foundAt AboveBound) z)
 
-  pub found-here : (n i place : ℕ) (p : First) (m : ℕ) → i < n → place ≡ 5 + i * 5 → firstFailing t AboveBound 5 (across provided (upto i)) ≡ clear → foundAt AboveBound p ≡ firstFailing t AboveBound place (provided i) → p ≡ At m → foundAt AboveBound p ≡ firstFailing t AboveBound 5 (across provided (upto n))
+  pub found-here : (n i place : ℕ) (p : First) (m : ℕ) → i < n → place ≡ firstProvided + i * placesEach → firstFailing t AboveBound firstProvided (across provided (upto i)) ≡ clear → foundAt AboveBound p ≡ firstFailing t AboveBound place (provided i) → p ≡ At m → foundAt AboveBound p ≡ firstFailing t AboveBound firstProvided (across provided (upto n))
   found-here n i place p m l e h k z =
       let s : foundAt AboveBound p ≡ holds (AboveBound m) = ap (foundAt AboveBound) z in
       s ∙ sym (first-kept t AboveBound provided 5 five 5 (suc i) n (AboveBound m) l (block i place e h ∙ sym k ∙ s))
 
   -- ---- the cleared quantities, then the resources'
-  in-turn : (c : Case) → firstFailing t AboveBound 1 (quantities c) ≡ orElse (firstFailing t AboveBound 1 (map Cleared curves)) (firstFailing t AboveBound 5 (across provided (upto (c .resources))))
+  in-turn : (c : Case) → firstFailing t AboveBound 1 (quantities c) ≡ orElse (firstFailing t AboveBound 1 (map Cleared curves)) (firstFailing t AboveBound firstProvided (across provided (upto (c .resources))))
   unfolding quantities
   in-turn c = first-append t AboveBound 1 (map Cleared curves) (across provided (upto (c .resources)))
 
@@ -124,5 +125,5 @@ module _ (t : Quantity → Bool) where
       let s : foundAt AboveBound p ≡ holds (AboveBound m) = ap (foundAt AboveBound) z in
       s ∙ sym (in-turn c ∙ rw (sym k ∙ s))
 
-  pub among-provided : (c : Case) (n : ℕ) (m p : First) → n ≡ c .resources → foundAt AboveBound m ≡ firstFailing t AboveBound 1 (map Cleared curves) → m ≡ None → foundAt AboveBound p ≡ firstFailing t AboveBound 5 (across provided (upto n)) → foundAt AboveBound p ≡ firstFailing t AboveBound 1 (quantities c)
+  pub among-provided : (c : Case) (n : ℕ) (m p : First) → n ≡ c .resources → foundAt AboveBound m ≡ firstFailing t AboveBound 1 (map Cleared curves) → m ≡ None → foundAt AboveBound p ≡ firstFailing t AboveBound firstProvided (across provided (upto n)) → foundAt AboveBound p ≡ firstFailing t AboveBound 1 (quantities c)
   among-provided c n m p e k z h = h ∙ rw e (sym (in-turn c ∙ rw (sym k ∙ ap (foundAt AboveBound) z)))

@@ -2,12 +2,14 @@
 // earlier one holds anywhere in the files (01, 'How each operation refuses').
 use case_check::Stage;
 use market::Amounts;
+use market::CURVES;
 use market::CurveAmounts;
 use market::First;
 use market::Kw;
 use market::OfferSteps;
 use market::Refusal;
 use market::Resource;
+use market::SERVICES;
 use market::Terms;
 ghost use mathlib.Core.Path.{_≡_};
 ghost use mathlib.Core.List.{map};
@@ -27,6 +29,12 @@ ghost use Rattle.case_records.specs.Places.{HeadIn, CurveIn};
 ghost use Rattle.case_records.specs.Ranged.{Ranged, RangedSteps};
 ghost use Rattle.limits.specs.Together.{TermsRanged};
 ghost use Rattle.quantities.specs.Filing.{Filing, Filed, Advanced};
+ghost use Rattle.quantities.specs.Places.{firstProvided};
+
+// Places have 32 bits. Those of resources begin behind the cleared quantities, one for each curve.
+const FIRST_PROVIDED: u32 = CURVES as u32 + 1;
+
+const PLACES_A_RESOURCE: u32 = SERVICES as u32;
 
 // ---- upper bounds
 
@@ -117,10 +125,10 @@ fn provided_above(given: Amounts, most: Amounts, place: u32) -> First
 
 fn first_provided_above(b: &[u8], q: &[u8], r: usize, z: usize, f: usize) -> First
     requires { ⌜ Filing (now b) (now q) r z f ⌝ }
-    ensures { λ n. ⌜ foundAt AboveBound n ≡ firstFailing (withinBound (caseOf (now (b .entry))) (certificateOf (now (q .entry)))) AboveBound 5 (across (λ i. map (Provided i) services) (upto r)) ⌝ }
+    ensures { λ n. ⌜ foundAt AboveBound n ≡ firstFailing (withinBound (caseOf (now (b .entry))) (certificateOf (now (q .entry)))) AboveBound firstProvided (across (λ i. map (Provided i) services) (upto r)) ⌝ }
 {
     let terms = case_reader::terms_in(b, r, z, f);
-    let mut place: u32 = 5;
+    let mut place = FIRST_PROVIDED;
     let mut i: usize = 0;
     while i < r {
         let most = service_bounds(
@@ -133,7 +141,7 @@ fn first_provided_above(b: &[u8], q: &[u8], r: usize, z: usize, f: usize) -> Fir
         let First::None = found else {
             return found;
         };
-        place += 5;
+        place += PLACES_A_RESOURCE;
         i += 1;
     }
     First::None

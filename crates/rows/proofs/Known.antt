@@ -18,7 +18,7 @@ use Rattle.market.specs.Case.{Case, curves}
 use Rattle.market.specs.CaseFile.{caseOf}
 use Rattle.market.specs.CaseCheck.{mostResources}
 use Rattle.market.specs.UpperBounds.{energy}
-use Rattle.market.specs.Rows.{Row, Balance, Zone, Flowgate, marketRows, zoneRows, flowgateRows, limitRows, rows}
+use Rattle.market.specs.Rows.{Row, Balance, Zone, Flowgate, marketRows, zoneRows, flowgateRows, limitRows, rows, zoneRowCount}
 use Rattle.market.specs.Certificate.{certificateOf}
 use Rattle.market.specs.InWords.{kwOf}
 use Rattle.market.specs.Records.{recordOf}
@@ -29,7 +29,7 @@ use Rattle.case_records.proofs.Ranged.{valid-resource}
 use Rattle.prices.specs.Standing.{Standing}
 use Rattle.prices.proofs.Known.{factor-size, resource-below, amount-small}
 use Rattle.units.specs.Room.{SumRoom, ProductRoom}
-use Rattle.rows.specs.Tests.{EnergyBounded}
+use Rattle.rows.specs.Tests.{EnergyBounded, firstZoneRow}
 use Rattle.rows.proofs.Search.{found-here, found-next}
 
 -- ---- energy
@@ -69,8 +69,8 @@ module _ {b q : List ℕ} {r z f : ℕ} (s : Standing b q r z f) where
 
 -- ---- the rows family by family
 module _ (c : Case) where
-  zone-rows-long : length (zoneRows c) ≡ c .zones * 4
-  zone-rows-long = length-across (λ y. map (Zone y) curves) 4 (λ y. refl) (upto (c .zones)) ∙ ap (λ (m : ℕ). m * 4) (length-upto (c .zones))
+  zone-rows-long : length (zoneRows c) ≡ c .zones * zoneRowCount
+  zone-rows-long = length-across (λ y. map (Zone y) curves) zoneRowCount (λ y. refl) (upto (c .zones)) ∙ ap (λ (m : ℕ). m * zoneRowCount) (length-upto (c .zones))
 
   -- a flowgate's row as a block of one
   pub flowgate-blocks : across (λ g. Flowgate g ∷ []) (upto (c .flowgates)) ≡ flowgateRows c
@@ -92,10 +92,10 @@ module _ (t : Row → Bool) (r : ℕ → Refusal) (c : Case) where
   marketFound = firstFailing t r 2 marketRows
 
   abbrev zonesFound : Finding
-  zonesFound = firstFailing t r 6 (zoneRows c)
+  zonesFound = firstFailing t r firstZoneRow (zoneRows c)
 
   abbrev networkFound : Finding
-  networkFound = firstFailing t r (6 + c .zones * 4) (flowgateRows c ++ limitRows c)
+  networkFound = firstFailing t r (firstZoneRow + c .zones * zoneRowCount) (flowgateRows c ++ limitRows c)
 
   rows-first : orElse balanceFound (orElse marketFound (orElse zonesFound networkFound)) ≡ firstFailing t r 1 (rows c)
   unfolding rows
@@ -105,7 +105,7 @@ module _ (t : Row → Bool) (r : ℕ → Refusal) (c : Case) where
       ∙ ap (orElse balanceFound)
       (first-append t r 2 marketRows (zoneRows c ++ (flowgateRows c ++ limitRows c))
       ∙ ap (orElse marketFound)
-      (first-append t r 6 (zoneRows c) (flowgateRows c ++ limitRows c) ∙ rw (zone-rows-long c))))
+      (first-append t r firstZoneRow (zoneRows c) (flowgateRows c ++ limitRows c) ∙ rw (zone-rows-long c))))
 
   -- row 1 is broken
   pub balance-broken : t Balance ≡ false → foundAt r (At 1) ≡ firstFailing t r 1 (rows c)

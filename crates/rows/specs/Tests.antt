@@ -2,7 +2,6 @@
 use mathlib.Core.Bool.{Bool, true, false}
 use mathlib.Core.List.{List, [], _∷_}
 use Prim.Native.Nat.{ℕ, suc, _+_, _*_, _<_, _≤_}
-use lib.ListN.{length}
 use lib.IntN.{_+ℤ_, _-ℤ_}
 use lib.Signed.{leZ}
 use Rattle.market.specs.declared.Amounts.{Amounts}
@@ -10,11 +9,10 @@ use Rattle.market.specs.declared.CurveAmounts.{CurveAmounts}
 use Rattle.market.specs.declared.First.{First}
 use Rattle.market.specs.declared.First.the-variants.{None, At}
 use Rattle.market.specs.declared.Refusal.the-variants.{RowBroken}
-use Rattle.market.specs.Case.{curves}
 use Rattle.market.specs.CaseFile.{caseOf}
 use Rattle.market.specs.CaseCheck.{mostResources, mostZones, mostFlowgates}
 use Rattle.market.specs.UpperBounds.{energy, Provided}
-use Rattle.market.specs.Rows.{Row, limits}
+use Rattle.market.specs.Rows.{Row, systemRowCount, zoneRowCount, resourceRowCount}
 use Rattle.market.specs.Certificate.{certificateOf}
 use Rattle.market.specs.Refusals.{Finding, firstFailing}
 use Rattle.market.specs.Outcome.{rowMet}
@@ -30,12 +28,16 @@ firstFalse n (false ∷ ts) = At n
 abbrev pub brokenFrom : List ℕ → List ℕ → ℕ → List Row → Finding
 brokenFrom b q n rows = firstFailing (rowMet (caseOf b) (certificateOf q)) RowBroken n rows
 
+-- the number of the zones' first row
+abbrev pub firstZoneRow : ℕ
+firstZoneRow = 1 + systemRowCount
+
 -- the largest number that the first row of a resource may have, and the one after the last row
 abbrev pub mostFirstLimit : ℕ
-mostFirstLimit = 2 + length curves + mostZones * length curves + mostFlowgates
+mostFirstLimit = firstZoneRow + mostZones * zoneRowCount + mostFlowgates
 
 abbrev pub mostRow : ℕ
-mostRow = mostFirstLimit + mostResources * length limits
+mostRow = mostFirstLimit + mostResources * resourceRowCount
 
 -- a row's number, up to so many
 pub record Numbered (most n : ℕ) : Type 0 where

@@ -9,7 +9,7 @@ ghost use Rattle.market.specs.declared.Refusal.the-variants.{RowBroken};
 ghost use Rattle.market.specs.Case.{curves};
 ghost use Rattle.market.specs.CaseFile.{caseOf};
 ghost use Rattle.market.specs.UpperBounds.{energy};
-ghost use Rattle.market.specs.Rows.{Balance, Zone, Flowgate, Limited, limits, marketRows, zoneRows, flowgateRows, limitRows, rows};
+ghost use Rattle.market.specs.Rows.{Balance, Zone, Flowgate, Limited, limits, marketRows, zoneRows, flowgateRows, limitRows, rows, zoneRowCount};
 ghost use Rattle.market.specs.Certificate.{certificateOf};
 ghost use Rattle.market.specs.InWords.{kwOf};
 ghost use Rattle.market.specs.Records.{kw, watts, curveAmountsOf};
@@ -19,14 +19,24 @@ ghost use Rattle.case_records.specs.Places.{ZoneIn};
 ghost use Rattle.certificate_records.specs.CertificateBytes.{CertificateBytes};
 ghost use Rattle.prices.specs.Standing.{Standing, SmallAmounts};
 ghost use Rattle.reserves.specs.Given.{marketTotal, zoneTotal, zoneTotals};
-ghost use Rattle.rows.specs.Tests.{firstFalse, shortTests, limitTests, EnergyBounded, brokenFrom, mostRow, mostFirstLimit, Numbered};
+ghost use Rattle.rows.specs.Tests.{firstFalse, shortTests, limitTests, EnergyBounded, brokenFrom, mostRow, mostFirstLimit, Numbered, firstZoneRow};
 use limits::ResourceLimits;
 use market::Amounts;
 use market::CurveAmounts;
 use market::First;
 use market::Kw;
 use market::MOST_ZONES;
+use market::RESOURCE_ROWS;
+use market::SYSTEM_ROWS;
 use market::Watts;
+use market::ZONE_ROWS;
+
+// Row numbers have 32 bits. Those of the zones begin behind row 1 and the market's.
+const FIRST_ZONE_ROW: u32 = SYSTEM_ROWS as u32 + 1;
+
+const NUMBERS_A_ZONE: u32 = ZONE_ROWS as u32;
+
+const NUMBERS_A_RESOURCE: u32 = RESOURCE_ROWS as u32;
 
 // ---- row 1
 
@@ -131,16 +141,16 @@ fn zones_short(
     have: [CurveAmounts; MOST_ZONES],
 ) -> First
     requires { ⌜ Standing (now b) (now q) r z f × (have ≡ zoneTotals (now b) (now q) r) ⌝ }
-    ensures { λ n. ⌜ foundAt RowBroken n ≡ brokenFrom (now (b .entry)) (now (q .entry)) 6 (zoneRows (caseOf (now (b .entry)))) ⌝ }
+    ensures { λ n. ⌜ foundAt RowBroken n ≡ brokenFrom (now (b .entry)) (now (q .entry)) firstZoneRow (zoneRows (caseOf (now (b .entry)))) ⌝ }
 {
-    let mut row: u32 = 6;
+    let mut row = FIRST_ZONE_ROW;
     let mut zone: usize = 0;
     while zone < z {
         let n = zone_short(b, q, r, z, f, zone, have[zone], row);
         let First::None = n else {
             return n;
         };
-        row += 4;
+        row += NUMBERS_A_ZONE;
         zone += 1;
     }
     First::None
@@ -247,7 +257,7 @@ fn resources_outside(b: &[u8], q: &[u8], r: usize, z: usize, f: usize, first: u3
         let First::None = n else {
             return n;
         };
-        row += 5;
+        row += NUMBERS_A_RESOURCE;
         i += 1;
     }
     First::None
@@ -258,9 +268,9 @@ fn resources_outside(b: &[u8], q: &[u8], r: usize, z: usize, f: usize, first: u3
 // The first broken row of a flowgate or of a resource.
 fn network_broken(b: &[u8], q: &[u8], r: usize, z: usize, f: usize) -> First
     requires { ⌜ Standing (now b) (now q) r z f ⌝ }
-    ensures { λ n. ⌜ foundAt RowBroken n ≡ brokenFrom (now (b .entry)) (now (q .entry)) (6 + z * 4) (flowgateRows (caseOf (now (b .entry))) ++ limitRows (caseOf (now (b .entry)))) ⌝ }
+    ensures { λ n. ⌜ foundAt RowBroken n ≡ brokenFrom (now (b .entry)) (now (q .entry)) (firstZoneRow + z * zoneRowCount) (flowgateRows (caseOf (now (b .entry))) ++ limitRows (caseOf (now (b .entry)))) ⌝ }
 {
-    let first = 6 + z as u32 * 4;
+    let first = FIRST_ZONE_ROW + z as u32 * NUMBERS_A_ZONE;
     let n = flowgates_over(b, q, r, z, f, first);
     let First::None = n else {
         return n;

@@ -4,6 +4,7 @@ use mathlib.Core.Path.{_≡_, refl, sym}
 use Prim.Native.Nat.{_+_, _*_, _-_, _≤_}
 use native.Mathlib.Omega.{arith}
 use borrow.Author.Needs.{needs}
+use Rattle.quantities.specs.Places.{firstProvided, placesEach}
 use Rattle.arith.specs.Sums.{upto, across}
 use Rattle.market.specs.declared.Refusal.the-variants.{AboveBound}
 use Rattle.market.specs.CaseFile.{caseOf}
@@ -19,7 +20,7 @@ use Rattle.quantities.proofs.first_provided_above.Statement.{statement}
 use Rattle.quantities.proofs.first_provided_above.Tie as tie
 
 abbrev Inv-loop : tie.InvT-loop
-Inv-loop b q r z f terms place₀ i₀ place i = (i ≤ r) × (place ≡ 5 + i * 5) × (firstFailing (withinBound (caseOf b) (certificateOf q)) AboveBound 5 (across provided (upto i)) ≡ clear)
+Inv-loop b q r z f terms place₀ i₀ place i = (i ≤ r) × (place ≡ firstProvided + i * placesEach) × (firstFailing (withinBound (caseOf b) (certificateOf q)) AboveBound firstProvided (across provided (upto i)) ≡ clear)
 
 abbrev μ-loop : tie.MeasureT-loop
 μ-loop b q r z f terms place₀ i₀ place i = r - i
