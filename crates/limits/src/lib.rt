@@ -251,9 +251,10 @@ fn ramp_floor(r: Resource) -> Kw
     less(r.other_powers.initial, fall)
 }
 
-fn low_limit(on: bool, r: Resource) -> Kw
+// Of its MAX, `most`, and its HI, `high`: a self-schedule above either of them yields (02, request 6).
+fn low_limit(on: bool, most: Kw, high: Kw, r: Resource) -> Kw
     requires { ⌜ Ranged r ⌝ }
-    ensures { λ m. ⌜ ((s : Figures) → on ≡ onLine s → r ≡ recordOf s → m ≡ power (LO s)) ⌝ }
+    ensures { λ m. ⌜ ((s : Figures) → on ≡ onLine s → most ≡ power (MAX s) → high ≡ power (HI s) → r ≡ recordOf s → m ≡ power (LO s)) ⌝ }
 {
     if !on {
         return Kw(0);
@@ -263,7 +264,8 @@ fn low_limit(on: bool, r: Resource) -> Kw
     if !flags.self_scheduled() {
         return floor;
     }
-    larger(floor, r.other_powers.self_schedule)
+    let in_reach = lesser(high, lesser(most, r.other_powers.self_schedule));
+    larger(floor, in_reach)
 }
 
 // MAX, MIN, HI and LO.
@@ -279,11 +281,13 @@ pub fn limits_of(r: Resource) -> ResourceLimits
     ensures { λ l. ⌜ ((s : Figures) → r ≡ recordOf s → l ≡ limitsOf s) ⌝ }
 {
     let on = on_line(r);
+    let most = max_limit(on, r);
+    let high = high_limit(on, r);
     ResourceLimits {
-        max: max_limit(on, r),
+        max: most,
         min: min_limit(on, r),
-        high: high_limit(on, r),
-        low: low_limit(on, r),
+        high: high,
+        low: low_limit(on, most, high, r),
     }
 }
 

@@ -1,18 +1,19 @@
--- On-line kind by kind; limits, upper bounds and spin flag by flag.
+-- On-line kind by kind; upper bounds and spin flag by flag; with them the limits.
 use mathlib.Core.Bool.{Bool, true, false, _||_}
 use mathlib.Core.Logic.{_⊎_, inl, inr}
 use mathlib.Core.Path.{_≡_, refl}
-use Prim.Native.Nat.{ℕ, _*_, _/_, _%_, _≤_, _<_}
+use Prim.Native.Nat.{ℕ, _/_, _%_, _≤_, _<_}
 use native.Mathlib.Omega.{arith}
 use lib.IntN.{pos, negℤ}
 use lib.Signed.{_≤ℤ_, _<ℤ_}
 use Rattle.market.specs.Case.{Case, Resource, Reserve, contingencyReserve}
 use Rattle.market.specs.Availability.{onLine}
-use Rattle.market.specs.Limits.{MAX, MIN, HI, LO}
+use Rattle.market.specs.Limits.{MAX}
 use Rattle.market.specs.UpperBounds.{contingency, RAMP, SHARE, onLineBound, serviceBound, upperBound}
 use Rattle.market.specs.Rows.{none, one, spins}
-use Rattle.market.specs.AvailabilityInWords.{BitSet, OnLine, Closed, LeastOnLine, OnLineInWords, LimitsInWords, BoundsInWords, SpinInWords, AvailabilityInWords}
-use Rattle.market.proofs.LeastAndLargest.{least-of-two, least-of-three, larger-of-difference, largest-with}
+use Rattle.market.specs.AvailabilityInWords.{BitSet, OnLine, Closed, LeastOnLine, OnLineInWords, BoundsInWords, SpinInWords, AvailabilityInWords}
+use Rattle.market.proofs.LeastAndLargest.{least-of-two, least-of-three}
+use Rattle.market.proofs.LimitsInWords.{limits-in-words}
 use Rattle.market.proofs.Tests.{Decides, true-exactly, reworded, both, either, eq-test, lt-test, leℤ-test, ltℤ-test}
 
 -- ---- on-line
@@ -66,23 +67,6 @@ on-line-in-words r =
       intermittent = λ e. true-exactly (reworded (on-line-test r) (of-intermittent r e) (λ h. inl (inr (((e, h .0), h .1), h .2))));
       external = λ e. true-exactly (reworded (on-line-test r) (of-external r e) (λ h. inr (((e, h .0), h .1), h .2)));
       no-other-kind = λ e. of-kinds r (true-exactly (on-line-test r) .0 e);
-    }
-
--- ---- limits
-limits-in-words : (r : Resource) → LimitsInWords r
-unfolding MAX MIN HI LO
-limits-in-words r =
-    record {
-      max-emergency = λ e h. rw (e, h);
-      max-regulating = λ e h k. rw (e, h, k);
-      max-economic = λ e h k. rw (e, h, k);
-      min-emergency = λ e h. rw (e, h);
-      min-regulating = λ e h k. rw (e, h, k);
-      min-economic = λ e h k. rw (e, h, k);
-      high-ramped = λ e. rw e;
-      low-ramped = λ e h. larger-of-difference (LO r) (r .initial) (5 * r .rampDown) (rw (e, h));
-      low-self-scheduled = λ e h. largest-with (LO r) (r .initial) (5 * r .rampDown) (r .selfSchedule) (rw (e, h));
-      off-line-limits = λ e. (rw e, rw e, rw e, rw e);
     }
 
 -- ---- upper bounds

@@ -1,4 +1,4 @@
--- The worked interval, the refusals and the order of prices and charges, by computation.
+-- The worked interval, self-schedules out of reach, the refusals and the order of prices and charges, by computation.
 use mathlib.Core.Path.{_≡_, refl}
 use lib.IntN.{pos}
 use Rattle.arith.specs.Sums.{minℤ, sumOf, totalOf, upto, all, across}
@@ -20,11 +20,15 @@ use Rattle.market.specs.Outcome.{caseGrounds, caseAnswer, sameCounts, fo
 use Rattle.market.specs.Numbers.{fieldAt, fieldBytes, numbersAt, bytesOf, numbersFit, times, caseFields, certificateFields, fileOf, numbersOf, certificateFileGrounds, readCaseGrounds, readCertificateGrounds, readCase, readCertificate, countsInRange, fieldsFor, fileFor, listGrounds, writeCaseGrounds, writeCertificateGrounds, writeCase, writeCertificate}
 use Rattle.market.specs.Program.{digitsOn, decimal, spaced, resourceLine, zoneLine, refusalLine, report, printed}
 use Rattle.market.specs.Interval.{K, Q}
-use Rattle.market.specs.Worked.{intervals, refusals, orders, same, AsSaid}
+use Rattle.market.specs.Worked.{intervals, selfSchedules, refusals, orders, same, AsSaid}
 
 pub worked : AsSaid intervals
 unfolding minℤ sumOf upto all across widthOf caseOf resourceAt lengthRight versionRight countsRight caseSizeRight reserveInRange resourceInRange flowgateInRange fieldsInRange stepsFollow stepsRight energyStepsRight stepsRule pairsOrdered limitsOrdered onLine MAX MIN HI LO quantities RAMP SHARE onLineBound serviceBound upperBound rows none one minusOne entries spins inReserve inLimit coefficient rightSide leftSide slack amountAt priceAt certificateOf priced quantityOf servicePrice offer pricedUpperBound filled part cost rowValue netPrice lowest bound LMP zoneSupplementalPrice zoneSpinningPrice zoneRegulatingPrice zoneShortTermPrice firstFailing firstOf caseGrounds sameCounts formGrounds certificateGrounds valuation outcome digitsOn decimal spaced resourceLine zoneLine refusalLine report printed same
 worked = tt
+
+pub self-schedules : AsSaid selfSchedules
+unfolding minℤ sumOf upto all across widthOf caseOf resourceAt lengthRight versionRight countsRight caseSizeRight reserveInRange resourceInRange flowgateInRange fieldsInRange stepsFollow stepsRight energyStepsRight stepsRule pairsOrdered limitsOrdered onLine MAX MIN HI LO quantities RAMP SHARE onLineBound serviceBound upperBound rows none one minusOne entries spins inReserve inLimit coefficient rightSide leftSide slack amountAt priceAt certificateOf priced quantityOf servicePrice offer pricedUpperBound filled part cost rowValue netPrice lowest bound firstFailing firstOf caseGrounds sameCounts formGrounds certificateGrounds valuation outcome same
+self-schedules = tt
 
 pub each-refusal : AsSaid refusals
 unfolding minℤ sumOf totalOf upto all across widthOf caseOf resourceAt lengthRight versionRight countsRight caseSizeRight reserveInRange resourceInRange flowgateInRange fieldsInRange stepsFollow stepsRight energyStepsRight stepsRule pairsOrdered limitsOrdered onLine MAX MIN HI LO quantities RAMP SHARE onLineBound serviceBound upperBound rows none one minusOne entries spins inReserve inLimit coefficient rightSide leftSide slack amountAt priceAt certificateOf priced quantityOf servicePrice offer pricedUpperBound filled part cost rowValue netPrice lowest bound LMP zoneSupplementalPrice zoneSpinningPrice zoneRegulatingPrice zoneShortTermPrice firstFailing firstOf caseGrounds caseAnswer sameCounts formGrounds certificateGrounds valuation outcome priceGrounds chargeGrounds priceAnswer chargeAnswer fieldAt fieldBytes numbersAt bytesOf numbersFit times caseFields certificateFields fileOf numbersOf certificateFileGrounds readCaseGrounds readCertificateGrounds readCase readCertificate countsInRange fieldsFor fileFor listGrounds writeCaseGrounds writeCertificateGrounds writeCase writeCertificate digitsOn decimal spaced resourceLine zoneLine refusalLine report printed same

@@ -7,7 +7,7 @@ use native.Mathlib.Decide.{decLe}
 use native.Mathlib.Omega.{arith}
 use lib.IntN.{pos, negℤ, _-ℤ_}
 use lib.Signed.{_≤ℤ_}
-use Rattle.arith.proofs.Parts.{add-fact, le-in, P-neg, N-neg}
+use Rattle.arith.proofs.Parts.{add-fact, le-out, le-in, P-neg, N-neg}
 use Rattle.arith.proofs.Order.{pos-sub}
 use Rattle.market.specs.AvailabilityInWords.{OneOf, LeastOf, LargestOf}
 
@@ -33,6 +33,9 @@ module _ (n : ℕ) where
 
     at-least-difference : a - d ≤ n → (pos a -ℤ pos d) ≤ℤ pos n
     at-least-difference h = le-in (omega (arith, add-fact (pos a) (negℤ (pos d)), P-neg (pos d), N-neg (pos d)))
+
+    pub difference-to : (pos a -ℤ pos d) ≤ℤ pos n → a - d ≤ n
+    difference-to h = omega (arith, le-out h, add-fact (pos a) (negℤ (pos d)), P-neg (pos d), N-neg (pos d))
 
     difference : n ≡ a - d → d ≤ a → pos n ≡ pos a -ℤ pos d
     difference e l = ap pos e ∙ sym (pos-sub a d l)

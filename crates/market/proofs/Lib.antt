@@ -26,6 +26,7 @@ pub mod Tests
 pub mod StepOrder
 pub mod CheckInWords
 pub mod LeastAndLargest
+pub mod LimitsInWords
 pub mod AvailabilityInWords
 pub mod KnownRanges
 pub mod Ranges

@@ -1,5 +1,5 @@
--- On-line, MAX, MIN, HI, LO, the upper bounds and spin in the words of 01 ('Before the rows', 'Rows'), with the value of each
--- status bit and flag where it is used.
+-- On-line, MAX, MIN, HI, LO, the upper bounds and spin in the words of 01 ('Before the rows', 'Rows') and 02 (request 6), with the
+-- value of each status bit and flag where it is used.
 use mathlib.Core.Bool.{true, false}
 use mathlib.Core.List.{List, [], _∷_}
 use mathlib.Core.Logic.{_↔_, _⊎_}
@@ -10,7 +10,7 @@ use lib.Signed.{_≤ℤ_, _<ℤ_}
 use Rattle.arith.specs.Sums.{Each}
 use Rattle.market.specs.Case.{Case, Resource, Curve, Reserve, regulatingReserve, contingencyReserve, shortTermReserve, widthOf}
 use Rattle.market.specs.Availability.{onLine}
-use Rattle.market.specs.Limits.{MAX, MIN, HI, LO}
+use Rattle.market.specs.Limits.{MAX, MIN, HI, LO, selfScheduleInReach}
 use Rattle.market.specs.UpperBounds.{Service, energy, regulation, contingency, onLineShortTerm, offLineShortTerm, Cleared, Provided, RAMP, SHARE, serviceBound, upperBound}
 use Rattle.market.specs.Rows.{spins}
 
@@ -66,9 +66,15 @@ pub record LimitsInWords (r : Resource) : Type 0 where
   pub min-regulating : OnLine r → BitClear 64 (r .flags) → BitSet 1 (r .flags) → MIN r ≡ r .regulatingMin
   pub min-economic : OnLine r → BitClear 64 (r .flags) → BitClear 1 (r .flags) → MIN r ≡ r .economicMin
   pub high-ramped : OnLine r → HI r ≡ r .initial + 5 * r .rampUp
-  -- at least 0; if self-scheduled, the larger of that and the self-schedule
+  -- at least 0; if self-scheduled, the larger of that and the least of HI, MAX and the self-schedule (02, request 6)
   pub low-ramped : OnLine r → BitClear 32 (r .flags) → LargestOf (pos 0 ∷ rampedDown r ∷ []) (pos (LO r))
-  pub low-self-scheduled : OnLine r → BitSet 32 (r .flags) → LargestOf (pos 0 ∷ rampedDown r ∷ pos (r .selfSchedule) ∷ []) (pos (LO r))
+  pub in-reach : LeastOf (HI r ∷ MAX r ∷ r .selfSchedule ∷ []) (selfScheduleInReach r)
+  pub low-self-scheduled : OnLine r → BitSet 32 (r .flags) → LargestOf (pos 0 ∷ rampedDown r ∷ pos (selfScheduleInReach r) ∷ []) (pos (LO r))
+  -- so one that both reach counts as 01 has it,
+  pub low-in-reach : OnLine r → BitSet 32 (r .flags) → r .selfSchedule ≤ HI r → r .selfSchedule ≤ MAX r → LargestOf (pos 0 ∷ rampedDown r ∷ pos (r .selfSchedule) ∷ []) (pos (LO r))
+  -- and none lifts LO above HI, nor above MAX unless the ramp's floor is above it
+  pub low-below-high : LO r ≤ HI r
+  pub low-below-max : rampedDown r ≤ℤ pos (MAX r) → LO r ≤ MAX r
   -- off-line: MAX and HI economic maximum, MIN and LO 0
   pub off-line-limits : OffLine r → (MAX r ≡ r .economicMax) × (HI r ≡ r .economicMax) × (MIN r ≡ 0) × (LO r ≡ 0)
 

@@ -1,4 +1,4 @@
--- The worked interval K and its certificate Q, as bytes, and changes of them (01, 'Worked interval').
+-- The worked interval K and its certificate Q, as bytes, and changes of them (01, 'Worked interval'; 02, request 6).
 use mathlib.Core.List.{List, [], _∷_, _++_}
 use Prim.Native.Nat.{ℕ, _+_, _-_}
 use lib.ListN.{length, take, drop, replicate}
@@ -42,6 +42,16 @@ tripTo n = change (resourceOfK + 4) (n ∷ [])
 
 abbrev pub kind2Committed : List ℕ → List ℕ
 kind2Committed b = change resourceOfK (2 ∷ []) (change (resourceOfK + 3) (1 ∷ []) b)
+
+abbrev pub economicMaxTo : ℕ → List ℕ → List ℕ
+economicMaxTo n = change (resourceOfK + 14) (u32Bytes n)
+
+abbrev pub selfScheduleTo : ℕ → List ℕ → List ℕ
+selfScheduleTo n = change (resourceOfK + 58) (u32Bytes n)
+
+-- with flag 32
+abbrev pub selfScheduledTo : ℕ → List ℕ → List ℕ
+selfScheduledTo n b = change (resourceOfK + 5) (32 ∷ []) (selfScheduleTo n b)
 
 abbrev pub energyTo : ℕ → List ℕ → List ℕ
 energyTo n = change 60 (u32Bytes n)

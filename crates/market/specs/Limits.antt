@@ -1,6 +1,6 @@
--- MAX, MIN, HI and LO of a resource (01, 'Before the rows').
+-- MAX, MIN, HI and LO of a resource (01, 'Before the rows'; 02, request 6).
 use mathlib.Core.Bool.{cond}
-use Prim.Native.Nat.{ℕ, _+_, _*_, _-_, max}
+use Prim.Native.Nat.{ℕ, _+_, _*_, _-_, min, max}
 use Rattle.market.specs.Bits.{regulatingFlag, emergencyMaximumFlag, emergencyMinimumFlag, selfScheduledFlag}
 use Rattle.market.specs.Case.{Resource}
 use Rattle.market.specs.Availability.{onLine}
@@ -24,5 +24,9 @@ HI r = cond (onLine r) (r .initial + 5 * r .rampUp) (r .economicMax)
 abbrev pub rampFloor : Resource → ℕ
 rampFloor r = r .initial - 5 * r .rampDown
 
+-- a self-schedule yields where the ramp or the limit does not reach it (02, request 6)
+abbrev pub selfScheduleInReach : Resource → ℕ
+selfScheduleInReach r = min (HI r) (min (MAX r) (r .selfSchedule))
+
 unfoldable pub LO : Resource → ℕ
-LO r = cond (onLine r) (cond (selfScheduledFlag (r .flags)) (max (rampFloor r) (r .selfSchedule)) (rampFloor r)) 0
+LO r = cond (onLine r) (cond (selfScheduledFlag (r .flags)) (max (rampFloor r) (selfScheduleInReach r)) (rampFloor r)) 0

@@ -1,5 +1,6 @@
--- (a) to (l) of the worked interval, one list under one statement; each refusal number on its own ground; and the order of
--- prices, charges and a printed line (01, 'Worked interval', 'How each operation refuses', 'Certificate, cost, bound, charges').
+-- (a) to (l) of the worked interval, one list under one statement; LO of a self-schedule out of reach; each refusal number on its
+-- own ground; and the order of prices, charges and a printed line (01, 'Worked interval', 'How each operation refuses',
+-- 'Certificate, cost, bound, charges'; 02, request 6).
 use mathlib.Core.Bool.{Bool, true, false, cond, _&&_}
 use mathlib.Core.List.{List, [], _∷_, _++_, map}
 use Prim.Native.Nat.{ℕ, _+_}
@@ -15,6 +16,7 @@ use Rattle.market.specs.declared.Count.{Count}
 use Rattle.market.specs.Case.{regulatingReserve}
 use Rattle.market.specs.CaseFile.{caseOf}
 use Rattle.market.specs.Availability.{onLine}
+use Rattle.market.specs.Limits.{LO}
 use Rattle.market.specs.UpperBounds.{RAMP}
 use Rattle.market.specs.Certificate.{amountsPlace, certificateOf}
 use Rattle.market.specs.Charges.{charges}
@@ -23,7 +25,7 @@ use Rattle.market.specs.Refusals.{caseNumberOf, resultOf, answerOf, coun
 use Rattle.market.specs.Outcome.{caseAnswer, outcome, priceAnswer, chargeAnswer}
 use Rattle.market.specs.Numbers.{u16Bytes, u32Bytes, caseNumbers, certificateNumbers, readCase, readCertificate, writeCase, writeCertificate}
 use Rattle.market.specs.Program.{resourceLine, printed}
-use Rattle.market.specs.Interval.{K, Q, zeros, change, minus32, resourceOfK, demandTo, outputTo, tripTo, kind2Committed, energyTo, row1To, highTo, gatedK, gatedQ}
+use Rattle.market.specs.Interval.{K, Q, zeros, change, minus32, resourceOfK, demandTo, outputTo, tripTo, kind2Committed, economicMaxTo, selfScheduleTo, selfScheduledTo, energyTo, row1To, highTo, gatedK, gatedQ}
 
 -- what the definitions give, and what 01 says
 pub record Example : Type 0 where
@@ -74,6 +76,28 @@ intervals =
     ∷ record { given = isOnLine (outputTo (u32Bytes 1) (kind2Committed K)) ∷ isOnLine (outputTo (u32Bytes 0) (kind2Committed K)) ∷ []; says = pos 1 ∷ pos 0 ∷ [] }
     ∷ record { given = pos (let c = caseOf (change 16 (u16Bytes 700) K) in RAMP c regulatingReserve (c .resource 0)) ∷ []; says = pos 42857 ∷ [] }
     ∷ record { given = LMP (caseOf gatedK) (certificateOf gatedQ .price) 0 ∷ []; says = pos 3012000 ∷ [] }
+    ∷ []
+
+abbrev pub lowLimit : List ℕ → List ℤ
+lowLimit b = pos (LO (caseOf b .resource 0)) ∷ []
+
+-- K's resource is at 50,000, with HI 65,000, MAX 100,000 and a ramp's floor of 35,000 (02, request 6)
+abbrev pub selfSchedules : List Example
+selfSchedules =
+    -- the unit of the request: HI is the least
+    record { given = lowLimit (selfScheduledTo 80000 K); says = pos 65000 ∷ [] }
+    -- MAX is the least; the self-schedule is
+    ∷ record { given = lowLimit (selfScheduledTo 80000 (economicMaxTo 60000 K)); says = pos 60000 ∷ [] }
+    ∷ record { given = lowLimit (selfScheduledTo 55000 K); says = pos 55000 ∷ [] }
+    -- the floor lies above the self-schedule; above MAX
+    ∷ record { given = lowLimit (selfScheduledTo 30000 K); says = pos 35000 ∷ [] }
+    ∷ record { given = lowLimit (selfScheduledTo 80000 (economicMaxTo 34000 K)); says = pos 35000 ∷ [] }
+    -- without the flag; off-line
+    ∷ record { given = lowLimit (selfScheduleTo 80000 K); says = pos 35000 ∷ [] }
+    ∷ record { given = lowLimit (selfScheduledTo 80000 (outputTo (u32Bytes 499) K)); says = pos 0 ∷ [] }
+    -- (d) and (a) of the unit of the request: the one is accepted as K's is, the other breaks e ≥ LO
+    ∷ record { given = run (selfScheduledTo 80000 (demandTo 65000 K)) (energyTo 65000 (row1To 3500000 (highTo 500000 Q))); says = accepted 155000000000 155000000000 0 }
+    ∷ record { given = run (selfScheduledTo 80000 K) Q; says = refused 14 14 }
     ∷ []
 
 abbrev pub numbered : CaseAnswer → List ℤ

@@ -1,4 +1,4 @@
--- `limits::limits_of` meets its contract: limit by limit. Assumes nothing.
+-- `limits::limits_of` meets its contract: limit by limit, LO from MAX and HI. Assumes nothing.
 use borrow.Author.Needs.{needs}
 use Rattle.limits.specs.Together.{limitsOf}
 use Rattle.limits.proofs.limits_of.Statement.{statement}
@@ -6,12 +6,15 @@ use Rattle.limits.proofs.limits_of.Tie as tie
 
 returns : tie.Need-returns
 unfolding limitsOf
-returns c =
-    λ s e i. record {
-      max = (c .before .before .before .max-limit .ensures s (c .before .before .before .before .on-line .ensures s e) e) i;
-      min = (c .before .before .min-limit .ensures s (c .before .before .before .before .on-line .ensures s e) e) i;
-      high = (c .before .high-limit .ensures s (c .before .before .before .before .on-line .ensures s e) e) i;
-      low = (c .low-limit .ensures s (c .before .before .before .before .on-line .ensures s e) e) i;
+returns c = λ s e.
+    let on = c .before .before .before .before .on-line .ensures s e in
+    let most = c .before .before .before .max-limit .ensures s on e in
+    let high = c .before .before .high-limit .ensures s on e in
+    λ i. record {
+      max = most i;
+      min = (c .before .min-limit .ensures s on e) i;
+      high = high i;
+      low = (c .low-limit .ensures s on most high e) i;
     }
 
 pub limits-of-spec : {M : Type 1} → statement M
