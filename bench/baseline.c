@@ -230,8 +230,10 @@ INLINE void take_standing(standing *s, const uint8_t *at, const reserve *g, cons
         s->min = u32(at + (flags & 64 ? 26 : flags & 1 ? 18 : 10));
         s->high = initial + 5 * (int64_t)u32(at + 34);
         s->low = fall < 0 ? 0 : fall;
-        if (flags & 32 && s->low < (int64_t)u32(at + 58))
-            s->low = u32(at + 58);
+        if (flags & 32) {
+            int64_t reach = least(least(s->high, s->max), u32(at + 58));
+            s->low = s->low < reach ? reach : s->low;
+        }
         for (int j = 0; j < STEPS; j++)
             sum += u32(at + 74 + 8 * j);
         s->bound[0] = sum;
