@@ -31,7 +31,7 @@ fn main() -> ExitCode {
 
 fn make(directory: &Path) -> io::Result<()> {
     let pairs = Corpus::new(directory.join("pairs"))?;
-    for (name, pair) in worked_pairs() {
+    for (name, pair) in worked_pairs().into_iter().chain(self_scheduled_pairs()) {
         pairs.pair(&format!("worked-{name}"), &pair.case_file(), &pair.certificate_file())?;
     }
     for (name, pair) in generated_pairs() {
@@ -76,10 +76,12 @@ impl Corpus {
     }
 }
 
+/// Where K's certificate has e, and the price of e <= HI.
+const ENERGY: usize = 4;
+const HIGH_ROW: usize = 12;
+
 /// (a) to (l) of the paper.
 fn worked_pairs() -> Vec<(&'static str, Pair)> {
-    const ENERGY: usize = 4;
-    const HIGH_ROW: usize = 12;
     let changed = |change: &dyn Fn(&mut Pair)| {
         let mut pair = worked::pair();
         change(&mut pair);
@@ -135,6 +137,34 @@ fn worked_pairs() -> Vec<(&'static str, Pair)> {
             }),
         ),
     ]
+}
+
+/// K with a self-schedule above HI, above MAX, in reach of both, and below the
+/// ramp's floor of 35,000 (request 6): e at LO, and one kW below it.
+fn self_scheduled_pairs() -> Vec<(&'static str, Pair)> {
+    [
+        ("self-schedule-to-hi", 100_000, 80_000, 65_000),
+        ("self-schedule-below-hi", 100_000, 80_000, 64_999),
+        ("self-schedule-to-max", 60_000, 80_000, 60_000),
+        ("self-schedule-below-max", 60_000, 80_000, 59_999),
+        ("self-schedule-in-reach", 100_000, 55_000, 55_000),
+        ("self-schedule-not-met", 100_000, 55_000, 54_999),
+        ("self-schedule-to-floor", 100_000, 30_000, 35_000),
+        ("self-schedule-below-floor", 100_000, 30_000, 34_999),
+    ]
+    .into_iter()
+    .map(|(name, maximum, self_schedule, energy)| {
+        let mut pair = worked::pair();
+        pair.case.demand = energy;
+        pair.case.resources[0].economic.maximum = maximum;
+        pair.case.resources[0].self_schedule = self_schedule;
+        pair.case.resources[0].flags = flag::SELF_SCHEDULED;
+        pair.certificate.amounts[ENERGY] = energy;
+        pair.certificate.row_prices[0] = 3_500_000;
+        pair.certificate.row_prices[HIGH_ROW] = 500_000;
+        (name, pair)
+    })
+    .collect()
 }
 
 fn counts(resources: usize, zones: usize, flowgates: usize) -> Counts {

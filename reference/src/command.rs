@@ -1,7 +1,7 @@
 //! The subcommands of `nostwier-reference`.
 
 use crate::damage;
-use crate::generate::{pair_of_counts, random_counts};
+use crate::generate::{random_counts, varied_pair};
 use crate::layout::Counts;
 use crate::operations;
 use crate::program::{self, LONGEST_INPUT};
@@ -412,7 +412,7 @@ fn next_files(random: &mut Random, order: &Order) -> Vec<(Vec<u8>, Vec<u8>)> {
         Some(counts) => counts,
         None => random_counts(random),
     };
-    let pair = pair_of_counts(random, counts);
+    let pair = varied_pair(random, counts);
     let sound = (pair.case_file(), pair.certificate_file());
     match order.manner {
         Manner::Accepted => vec![sound],

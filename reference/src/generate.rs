@@ -94,7 +94,33 @@ pub fn random_counts(random: &mut Random) -> Counts {
 /// An accepted pair of any size and scale.
 pub fn random_pair(random: &mut Random) -> Pair {
     let counts = random_counts(random);
-    pair_of_counts(random, counts)
+    varied_pair(random, counts)
+}
+
+/// An accepted pair as `pair_of_counts` draws it, with some self-schedules out
+/// of reach. These are drawn aside: what is drawn next is the same without them.
+pub fn varied_pair(random: &mut Random, counts: Counts) -> Pair {
+    let mut pair = pair_of_counts(random, counts);
+    let mut aside = Random::new(random.clone().bits());
+    lift_self_schedules(&mut aside, &mut pair);
+    pair
+}
+
+/// Lifts self-schedules above HI, above MAX or above both. They yield to the
+/// lesser of the two (request 6), so it is done where e already stands at that.
+fn lift_self_schedules(random: &mut Random, pair: &mut Pair) {
+    const MOST: Kw = 2_000_000;
+    for (index, standing) in standings(&pair.case).iter().enumerate() {
+        let resource = &mut pair.case.resources[index];
+        let lesser = standing.high.min(standing.maximum);
+        let larger = standing.high.max(standing.maximum);
+        let scheduled = standing.online && resource.has_flag(flag::SELF_SCHEDULED);
+        if scheduled && pair.certificate.amounts[index_of(index, Product::Energy)] == lesser {
+            let own = resource.self_schedule;
+            resource.self_schedule =
+                random.pick(&[own, lesser + 1, larger, larger + 1, MOST]).min(MOST);
+        }
+    }
 }
 
 /// An accepted pair of the given size and any scale, now and then filled to

@@ -1,9 +1,9 @@
 //! The dispatch certificate of one five-minute interval, read a second time.
 //!
-//! Everything here is written from the paper alone, with plain means: each
-//! file is a list of fields, each row a full vector of coefficients, each sum
-//! exact. It is the yardstick that the proved code is compared with, so it
-//! prefers to be plainly right over being quick.
+//! Everything here is written from the paper and the requests that change it
+//! alone, with plain means: each file is a list of fields, each row a full
+//! vector of coefficients, each sum exact. It is the yardstick that the proved
+//! code is compared with, so it prefers to be plainly right over being quick.
 
 pub mod accounts;
 pub mod case;

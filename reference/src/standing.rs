@@ -83,12 +83,7 @@ pub fn share(reserve: &Reserve) -> Kw {
 fn online_standing(case: &Case, resource: &Resource) -> Standing {
     let maximum = limits_in_force(resource, flag::EMERGENCY_MAXIMUM).maximum;
     let minimum = limits_in_force(resource, flag::EMERGENCY_MINIMUM).minimum;
-    let ramped_down = (resource.initial - INTERVAL_MINUTES * resource.ramp_down).max(0);
-    let low = if resource.has_flag(flag::SELF_SCHEDULED) {
-        ramped_down.max(resource.self_schedule)
-    } else {
-        ramped_down
-    };
+    let high = resource.initial + INTERVAL_MINUTES * resource.ramp_up;
     let spinning = resource.has_flag(flag::SPINNING);
     let supplemental = resource.has_status(status::ONLINE_SUPPLEMENTAL);
     let reserve_bound = |offered: bool, reserve: &Reserve| {
@@ -102,8 +97,8 @@ fn online_standing(case: &Case, resource: &Resource) -> Standing {
         online: true,
         maximum,
         minimum,
-        high: resource.initial + INTERVAL_MINUTES * resource.ramp_up,
-        low,
+        high,
+        low: online_low(resource, high, maximum),
         spinning,
         bounds: [
             resource.steps.iter().map(|step| step.width).sum(),
@@ -112,6 +107,18 @@ fn online_standing(case: &Case, resource: &Resource) -> Standing {
             reserve_bound(resource.has_flag(flag::ONLINE_SHORT_TERM), &case.short_term),
             0,
         ],
+    }
+}
+
+/// LO on-line: what the ramp down leaves, at least 0. The paper goes on 'if
+/// self-scheduled, the larger of that and the self-schedule'; by request 6 it is
+/// the larger of that and the least of HI, MAX and the self-schedule.
+fn online_low(resource: &Resource, high: Kw, maximum: Kw) -> Kw {
+    let ramped_down = (resource.initial - INTERVAL_MINUTES * resource.ramp_down).max(0);
+    if resource.has_flag(flag::SELF_SCHEDULED) {
+        ramped_down.max(high.min(maximum).min(resource.self_schedule))
+    } else {
+        ramped_down
     }
 }
 

@@ -4,10 +4,10 @@
 mod common;
 
 use nostwier_reference::accounts::{accounts, cost, listed, listed_amounts, Accounts};
-use nostwier_reference::case::{Curve, Flowgate, Step};
+use nostwier_reference::case::{flag, Curve, Flowgate, Step};
 use nostwier_reference::certificate::{accept, first_above_bound, first_broken, Accepted};
 use nostwier_reference::generate::{
-    full_pair, pair_of_counts, pair_of_scale, random_pair, Pair, Scale,
+    full_pair, pair_of_counts, pair_of_scale, random_pair, varied_pair, Pair, Scale,
 };
 use nostwier_reference::layout::{case_fields, Counts};
 use nostwier_reference::prices::lmps;
@@ -207,6 +207,33 @@ fn generated_cases_show_every_kind_of_standing() {
     assert!(online > 300 && offline > 200 && spinning > 100, "{online} {offline} {spinning}");
     assert!(cleared > 100, "{cleared}");
     assert!(products.iter().all(|count| *count > 50), "{products:?}");
+}
+
+/// Self-schedules of on-line resources on each side of what LO is made of, so
+/// that a wrong LO shows when another implementation is run on such cases.
+#[test]
+fn generated_self_schedules_stand_on_every_side_of_floor_high_and_maximum() {
+    let mut random = Random::new(28);
+    let mut met: BTreeMap<&str, usize> = BTreeMap::new();
+    for _ in 0..200 {
+        let pair = varied_pair(&mut random, Counts { resources: 10, zones: 3, flowgates: 2 });
+        let accepted = accepted(&pair);
+        for (resource, standing) in pair.case.resources.iter().zip(&accepted.standings) {
+            if !standing.online || !resource.has_flag(flag::SELF_SCHEDULED) {
+                continue;
+            }
+            let floor = resource.initial - 5 * resource.ramp_down;
+            let side = match resource.self_schedule {
+                own if own < floor => "below the floor",
+                own if own > standing.high.max(standing.maximum) => "above HI and MAX",
+                own if own > standing.high => "above HI alone",
+                own if own > standing.maximum => "above MAX alone",
+                _ => "in reach",
+            };
+            *met.entry(side).or_default() += 1;
+        }
+    }
+    assert!(met.len() == 5 && met.values().all(|count| *count > 10), "{met:?}");
 }
 
 #[test]

@@ -97,7 +97,7 @@ fn high_and_low_follow_ramps_and_self_schedule() {
         (0, 48_000, 50_000, 40_000, 65_000),
         (flag::SELF_SCHEDULED, 48_000, 50_000, 48_000, 65_000),
         (flag::SELF_SCHEDULED, 39_999, 50_000, 40_000, 65_000),
-        (flag::SELF_SCHEDULED, 70_000, 50_000, 70_000, 65_000),
+        (flag::SELF_SCHEDULED, 70_000, 50_000, 65_000, 65_000),
         (0, 0, 9_999, 0, 24_999),
         (flag::SELF_SCHEDULED, 7, 0, 7, 15_000),
     ] {
@@ -112,6 +112,75 @@ fn high_and_low_follow_ramps_and_self_schedule() {
         assert_eq!((of(&case).low, of(&case).high), (low, high));
         case.resources[0].breaker_closed = false;
         assert_eq!((of(&case).low, of(&case).high), (0, 100_000));
+    }
+}
+
+/// K, where HI is 65,000 and the ramp's floor 35,000, with another economic
+/// maximum and a self-schedule.
+fn self_scheduled(maximum: i64, self_schedule: i64) -> Case {
+    changed(|resource| {
+        resource.economic.maximum = maximum;
+        resource.self_schedule = self_schedule;
+        resource.flags = flag::SELF_SCHEDULED;
+    })
+}
+
+/// Request 6.
+#[test]
+fn a_self_schedule_out_of_reach_yields() {
+    for (maximum, self_schedule, low) in [
+        // HI is the least: first the request's own unit.
+        (100_000, 80_000, 65_000),
+        (100_000, 65_001, 65_000),
+        (100_000, 120_000, 65_000),
+        // MAX is the least, the self-schedule below HI or above.
+        (60_000, 60_001, 60_000),
+        (60_000, 80_000, 60_000),
+        // The self-schedule is the least.
+        (100_000, 64_999, 64_999),
+        (60_000, 59_999, 59_999),
+        (100_000, 35_001, 35_001),
+        // The floor lies above the least, be that the self-schedule or MAX.
+        (100_000, 34_999, 35_000),
+        (34_999, 80_000, 35_000),
+    ] {
+        let mut case = self_scheduled(maximum, self_schedule);
+        let what = format!("MAX {maximum}, self-schedule {self_schedule}");
+        assert_eq!((of(&case).high, of(&case).maximum), (65_000, maximum), "{what}");
+        assert_eq!(of(&case).low, low, "{what}");
+        case.resources[0].flags = 0;
+        assert_eq!(of(&case).low, 35_000, "{what}, without the flag");
+        case.resources[0].flags = flag::SELF_SCHEDULED;
+        case.resources[0].breaker_closed = false;
+        assert_eq!(of(&case).low, 0, "{what}, off-line");
+    }
+}
+
+#[test]
+fn a_self_schedule_yields_to_the_maximum_in_force() {
+    for (flags, low) in [(0, 60_000), (flag::REGULATING, 58_000), (flag::EMERGENCY_MAXIMUM, 62_000)]
+    {
+        let mut case = self_scheduled(60_000, 80_000);
+        case.resources[0].regulating.maximum = 58_000;
+        case.resources[0].emergency.maximum = 62_000;
+        case.resources[0].flags |= flags;
+        assert_eq!(of(&case).low, low, "flags {flags}");
+    }
+}
+
+/// Row 14 is K's e >= LO.
+#[test]
+fn a_self_schedule_out_of_reach_asks_for_all_that_is_in_reach() {
+    for (maximum, most) in [(100_000, 65_000), (60_000, 60_000)] {
+        let mut pair = worked::pair();
+        pair.case = self_scheduled(maximum, 80_000);
+        for (energy, broken) in [(most, None), (most - 1, Some(14))] {
+            pair.case.demand = energy;
+            pair.certificate.amounts[4] = energy;
+            let answer = check(&pair).map(|_| ());
+            let expected = broken.map_or(Ok(()), |row| refused(Refusal::Row { row }));
+            assert_eq!(answer, expected, "MAX {maximum}, e {energy}");
+        }
     }
 }
 

@@ -5,7 +5,7 @@ mod common;
 use common::{check, refused};
 use nostwier_reference::case::Flowgate;
 use nostwier_reference::damage::{every_damage, random_bytes, random_harm};
-use nostwier_reference::generate::{pair_of_counts, random_pair};
+use nostwier_reference::generate::{pair_of_counts, random_pair, varied_pair};
 use nostwier_reference::layout::{case_fields, certificate_fields, Counts};
 use nostwier_reference::random::Random;
 use nostwier_reference::{
@@ -30,7 +30,7 @@ fn every_damage_meets_its_refusal() {
     let mut met = BTreeSet::new();
     let sizes = [(1, 1, 0), (1, 2, 1), (2, 3, 2), (4, 1, 1), (7, 8, 3), (3, 2, 16)];
     for (resources, zones, flowgates) in sizes.into_iter().cycle().take(18) {
-        let pair = pair_of_counts(&mut random, Counts { resources, zones, flowgates });
+        let pair = varied_pair(&mut random, Counts { resources, zones, flowgates });
         for damaged in every_damage(&pair) {
             let answer = check_certificate(&damaged.case, &damaged.certificate);
             assert_eq!(answer, refused(damaged.refusal), "{}", damaged.what);

@@ -6,7 +6,7 @@ use super::{Call, Operation};
 use crate::damage::{
     broken_rows, minima_above_maxima, quantities_above_their_bounds, steps_against_their_rule,
 };
-use crate::generate::{pair_of_counts, Pair};
+use crate::generate::{varied_pair, Pair};
 use crate::layout::{self, Counts, MOST_FLOWGATES, MOST_RESOURCES, MOST_ZONES};
 use crate::random::Random;
 
@@ -125,7 +125,7 @@ fn base(random: &mut Random, group: &Group, index: usize) -> Base {
             flowgates: random.edgy(0, group.most.flowgates as i64) as usize,
         },
     };
-    let pair = pair_of_counts(random, counts);
+    let pair = varied_pair(random, counts);
     let mut damaged = Vec::new();
     for kind in KINDS {
         let mut list = kind(&pair);
