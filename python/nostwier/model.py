@@ -108,7 +108,7 @@ def _on_line_state(case, resource):
         return _least([_ramp(resource, figures, name), _share(figures, name), Figure(most.kw, f"MAX, {most.why}")], "")
 
     return State(
-        True, [], most, least, *_ramped(resource),
+        True, [], most, least, *_ramped(resource, most),
         Figure(sum(step.width for step in resource.energy_steps), "the sum of the widths of its energy steps"),
         reserve(reserves.regulating, "regulating", flags & Flags.regulating, "its flag 'regulating' is clear"),
         reserve(reserves.contingency, "contingency", flags & Flags.spinning or resource.status & Status.on_line_supplemental,
@@ -137,16 +137,23 @@ def _most_and_least(resource):
     return most, least
 
 
-def _ramped(resource):
-    """HI and LO on-line."""
+def _ramped(resource, most):
+    """HI and LO on-line, of its MAX too: a self-schedule lifts LO no further than HI and MAX."""
     initial, up, down = resource.initial_energy, resource.ramp_up, resource.ramp_down
     hi = Figure(initial + INTERVAL_MINUTES * up,
                 f"the initial energy {initial:,} plus {INTERVAL_MINUTES} minutes of ramp up at {up:,} kW a minute")
     lo = Figure(max(0, initial - INTERVAL_MINUTES * down),
                 f"the initial energy {initial:,} less {INTERVAL_MINUTES} minutes of ramp down at {down:,} kW a minute, at least 0")
-    if resource.flags & Flags.self_scheduled and resource.self_schedule > lo.kw:
-        lo = Figure(resource.self_schedule, "the self-schedule, as flag 'self_scheduled' is set")
+    if resource.flags & Flags.self_scheduled:
+        lo = max(lo, _self_scheduled(resource, hi, most), key=lambda figure: figure.kw)
     return hi, lo
+
+
+def _self_scheduled(resource, hi, most):
+    """As much of the self-schedule as HI and MAX allow."""
+    yields = f"that the self-schedule of {resource.self_schedule:,} yields to"
+    return min(Figure(resource.self_schedule, "the self-schedule, as flag 'self_scheduled' is set"),
+               Figure(hi.kw, f"the HI {yields}"), Figure(most.kw, f"the MAX {yields}"), key=lambda figure: figure.kw)
 
 
 def states(case: "Case") -> List[State]:

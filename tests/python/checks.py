@@ -225,6 +225,10 @@ def refusals():
                                "minutes ago, and more than 15 are needed", ""),
         ("worked-k-42858", 13, 7, "resource 1: contingency c is 42,858 kW, and at most 42,857 kW is possible: this is the ramp rate 3,000 kW "
                                   "a minute times the minutes 10 of contingency reserve, divided by its multiplier 700 / 1,000", ""),
+        ("worked-self-schedule-below-hi", 14, 14, "resource 1: e >= LO: e is 64,999 kW, and it must be at least LO, the HI that the "
+                                                  "self-schedule of 80,000 yields to: 65,000 kW; 1 kW is missing", ""),
+        ("worked-self-schedule-below-max", 14, 14, "resource 1: e >= LO: e is 59,999 kW, and it must be at least LO, the MAX that the "
+                                                   "self-schedule of 80,000 yields to: 60,000 kW; 1 kW is missing", ""),
         ("refused-13-07", 13, 7, "resource 1: contingency c is 1 kW, and at most 0 kW is possible: this is the share 0 / 1,000 of the "
                                  "market's contingency requirement 1,698,916 kW", ""),
         ("refused-14-15", 14, 15, "flowgate 2: the flow is 302,861.154 kW, and it must be at most the limit: 302,861.000 kW; 0.154 kW are "
@@ -811,7 +815,7 @@ def models():
         same(f"on-line of {name} by resource", [state.on_line for state in states], [resource.on_line for resource in record.resources])
         check(f"reasons of {name}", all(bool(state.reasons) != state.on_line for state in states))
         kinds |= {(int(resource.kind), resource.on_line) for resource in record.resources}
-        whys |= {re.sub(r"\d[\d,]*", "#", getattr(state, part).why) for state in states for part in ("e", "g", "c", "s", "o")}
+        whys |= {re.sub(r"\d[\d,]*", "#", getattr(state, part).why) for state in states for part in ("lo", "e", "g", "c", "s", "o")}
 
         # Each bound: a quantity of so much is not refused for it, one kW more is, there.
         counts, quantities = record.counts, nostwier.quantities(record, made)
@@ -832,7 +836,8 @@ def models():
             same(f"parts of {name}", [part.grains for part in nostwier.parts(record, trial)], nostwier.charges(case, trial))
     same("kinds that were met", kinds, {(kind, on_line) for kind in (1, 2, 3) for on_line in (True, False)})
     for why in ("its flag 'regulating' is clear", "this is the share", "this is the ramp rate", "this is MAX", "off-line response limit",
-                "off-line short-term limit", "'off_line_supplemental' is clear"):
+                "off-line short-term limit", "'off_line_supplemental' is clear", "the self-schedule, as", "the HI that the self-schedule",
+                "the MAX that the self-schedule"):
         check(f"a bound for the reason {why}", any(why in text for text in whys))
 
     # The first quantity or row that is broken, by the model, is what the library refuses.
@@ -847,6 +852,14 @@ def models():
     state = nostwier.Case.load(EXAMPLE / "small.json").state(6)
     same("limits of a resource", (state.on_line, state.maximum.kw, state.minimum.kw, state.hi.kw, state.lo, state.e.kw), (
         True, 160_000, 60_000, 102_500, (90_000, "the self-schedule, as flag 'self_scheduled' is set"), 160_000))
+    # A self-schedule yields to HI and to MAX; what the ramp down leaves yields to neither.
+    floor = (87_500, "the initial energy 95,000 less 5 minutes of ramp down at 1,500 kW a minute, at least 0")
+    for scheduled, most, low in ((200_000, 160_000, (102_500, "the HI that the self-schedule of 200,000 yields to")),
+                                 (200_000, 100_000, (100_000, "the MAX that the self-schedule of 200,000 yields to")),
+                                 (80_000, 160_000, floor), (200_000, 80_000, floor)):
+        small = nostwier.Case.load(EXAMPLE / "small.json")
+        small.resources[5].self_schedule, small.resources[5].economic.maximum = scheduled, most
+        same(f"LO with a self-schedule of {scheduled} and MAX {most}", small.state(6).lo, low)
     for large, small, asked in ((100, 1, True), (1000, 1, True), (49, 1, False), (300, 1, False), (2001, 1, False), (100, 0, False)):
         same(f"{large} for {small}", bool(model.asks(large, small, "kW")), asked)
     for number in (-1, 0, 11):
