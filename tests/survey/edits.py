@@ -47,7 +47,12 @@ EDITS = [
     ("high_six_minutes", "Limits", "r .initial + 5 * r .rampUp", "r .initial + 6 * r .rampUp"),
     ("high_by_ramp_down", "Limits", "r .initial + 5 * r .rampUp", "r .initial + 5 * r .rampDown"),
     ("low_by_ramp_up", "Limits", "rampFloor r = r .initial - 5 * r .rampDown", "rampFloor r = r .initial - 5 * r .rampUp"),
-    ("self_schedule_lowers", "Limits", "max (rampFloor r) (r .selfSchedule)", "Prim.Native.Nat.min (rampFloor r) (r .selfSchedule)"),
+    ("self_schedule_lowers", "Limits", "max (rampFloor r) (selfScheduleInReach r)", "min (rampFloor r) (selfScheduleInReach r)"),
+    ("self_schedule_lifts", "Limits", "max (rampFloor r) (selfScheduleInReach r)", "max (rampFloor r) (r .selfSchedule)"),
+    ("self_schedule_past_ramp", "Limits", "min (HI r) (min (MAX r) (r .selfSchedule))", "min (MAX r) (r .selfSchedule)"),
+    ("self_schedule_past_max", "Limits", "min (HI r) (min (MAX r) (r .selfSchedule))", "min (HI r) (r .selfSchedule)"),
+    ("self_schedule_to_economic", "Limits", "min (HI r) (min (MAX r) (r .selfSchedule))", "min (HI r) (min (r .economicMax) (r .selfSchedule))"),
+    ("floor_yields", "Limits", "max (rampFloor r) (selfScheduleInReach r)", "min (MAX r) (max (rampFloor r) (r .selfSchedule))"),
     # upper bounds
     ("divide_first", "UpperBounds", "RAMP c reserve r = r .rampRate * c .minutes reserve * 1000 / c .multiplier reserve", "RAMP c reserve r = r .rampRate * c .minutes reserve / c .multiplier reserve * 1000"),
     ("share_hundredths", "UpperBounds", "SHARE c reserve = c .share reserve * c .requirement reserve / 1000", "SHARE c reserve = c .share reserve * c .requirement reserve / 100"),
