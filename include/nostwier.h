@@ -21,8 +21,9 @@
 #include <stddef.h>
 #include <stdint.h>
 
-/* The version of this interface. Within one first number, what is there stays as it is. */
-#define NOSTWIER_VERSION "1.0.0"
+/* The version. Within one first number, the interface that is there stays as it is; the second number rises where a rule of the
+ * market changes, and with it an answer. */
+#define NOSTWIER_VERSION "1.1.0"
 
 /* ---- Units. Power is in kW; prices of offers, curves and flowgates in cents per MWh, all other prices in thousandths of a
  * cent per MWh. Cost, bound, gap and charges are in grains, a thousandth of a cent per MWh times one kW: so many grains are
