@@ -16,7 +16,7 @@ use Rattle.market.specs.declared.Count.{Count}
 use Rattle.market.specs.Case.{regulatingReserve}
 use Rattle.market.specs.CaseFile.{caseOf}
 use Rattle.market.specs.Availability.{onLine}
-use Rattle.market.specs.Limits.{LO}
+use Rattle.market.specs.Limits.{MAX, HI, LO}
 use Rattle.market.specs.UpperBounds.{RAMP}
 use Rattle.market.specs.Certificate.{amountsPlace, certificateOf}
 use Rattle.market.specs.Charges.{charges}
@@ -78,23 +78,23 @@ intervals =
     ∷ record { given = LMP (caseOf gatedK) (certificateOf gatedQ .price) 0 ∷ []; says = pos 3012000 ∷ [] }
     ∷ []
 
-abbrev pub lowLimit : List ℕ → List ℤ
-lowLimit b = pos (LO (caseOf b .resource 0)) ∷ []
+abbrev pub highMaxLow : List ℕ → List ℤ
+highMaxLow b = let r = caseOf b .resource 0 in pos (HI r) ∷ pos (MAX r) ∷ pos (LO r) ∷ []
 
--- K's resource is at 50,000, with HI 65,000, MAX 100,000 and a ramp's floor of 35,000 (02, request 6)
+-- K's resource is at 50,000, and its ramp's floor is 35,000: HI, MAX and LO (02, request 6)
 abbrev pub selfSchedules : List Example
 selfSchedules =
     -- the unit of the request: HI is the least
-    record { given = lowLimit (selfScheduledTo 80000 K); says = pos 65000 ∷ [] }
+    record { given = highMaxLow (selfScheduledTo 80000 K); says = pos 65000 ∷ pos 100000 ∷ pos 65000 ∷ [] }
     -- MAX is the least; the self-schedule is
-    ∷ record { given = lowLimit (selfScheduledTo 80000 (economicMaxTo 60000 K)); says = pos 60000 ∷ [] }
-    ∷ record { given = lowLimit (selfScheduledTo 55000 K); says = pos 55000 ∷ [] }
+    ∷ record { given = highMaxLow (selfScheduledTo 80000 (economicMaxTo 60000 K)); says = pos 65000 ∷ pos 60000 ∷ pos 60000 ∷ [] }
+    ∷ record { given = highMaxLow (selfScheduledTo 55000 K); says = pos 65000 ∷ pos 100000 ∷ pos 55000 ∷ [] }
     -- the floor lies above the self-schedule; above MAX
-    ∷ record { given = lowLimit (selfScheduledTo 30000 K); says = pos 35000 ∷ [] }
-    ∷ record { given = lowLimit (selfScheduledTo 80000 (economicMaxTo 34000 K)); says = pos 35000 ∷ [] }
+    ∷ record { given = highMaxLow (selfScheduledTo 30000 K); says = pos 65000 ∷ pos 100000 ∷ pos 35000 ∷ [] }
+    ∷ record { given = highMaxLow (selfScheduledTo 80000 (economicMaxTo 34000 K)); says = pos 65000 ∷ pos 34000 ∷ pos 35000 ∷ [] }
     -- without the flag; off-line
-    ∷ record { given = lowLimit (selfScheduleTo 80000 K); says = pos 35000 ∷ [] }
-    ∷ record { given = lowLimit (selfScheduledTo 80000 (outputTo (u32Bytes 499) K)); says = pos 0 ∷ [] }
+    ∷ record { given = highMaxLow (selfScheduleTo 80000 K); says = pos 65000 ∷ pos 100000 ∷ pos 35000 ∷ [] }
+    ∷ record { given = highMaxLow (selfScheduledTo 80000 (outputTo (u32Bytes 499) K)); says = pos 100000 ∷ pos 100000 ∷ pos 0 ∷ [] }
     -- (d) and (a) of the unit of the request: the one is accepted as K's is, the other breaks e ≥ LO
     ∷ record { given = run (selfScheduledTo 80000 (demandTo 65000 K)) (energyTo 65000 (row1To 3500000 (highTo 500000 Q))); says = accepted 155000000000 155000000000 0 }
     ∷ record { given = run (selfScheduledTo 80000 K) Q; says = refused 14 14 }
