@@ -5,6 +5,12 @@
 
 enum { MOST = 1 << 16, HEAD = 170, RESOURCE = 154 };
 
+/* A self-schedule that is in range, to 2,000,000. */
+static int above_economic_maximum(const uint8_t *self_schedule, const uint8_t *maximum)
+{
+    return memcmp(self_schedule, "\x00\x1e\x84\x80", 4) <= 0 && memcmp(self_schedule, maximum, 4) > 0;
+}
+
 /* The case as a wrong reader would see it; the certificate and the answer are left alone. */
 static const uint8_t *misread(const uint8_t *c, size_t cn)
 {
@@ -17,6 +23,8 @@ static const uint8_t *misread(const uint8_t *c, size_t cn)
             at[4] = 16;
         if (fault("certificate:regulating-limits-before-emergency-ones") && (at[5] & 1) != 0)
             at[5] &= (uint8_t)~16;
+        if (fault("certificate:self-schedule-yields-to-the-economic-maximum") && above_economic_maximum(at + 58, at + 14))
+            memcpy(at + 58, at + 14, 4);
         if (fault("certificate:nine-energy-steps"))
             memset(at + 74 + 9 * 8, 0, 8);
     }
