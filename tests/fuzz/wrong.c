@@ -5,7 +5,7 @@
 
 enum { MOST = 1 << 16, HEAD = 170, RESOURCE = 154 };
 
-/* A self-schedule that is in range, to 2,000,000. */
+/* Whether a self-schedule is in range, to 2,000,000, and above the economic maximum. */
 static int above_economic_maximum(const uint8_t *self_schedule, const uint8_t *maximum)
 {
     return memcmp(self_schedule, "\x00\x1e\x84\x80", 4) <= 0 && memcmp(self_schedule, maximum, 4) > 0;
