@@ -7,7 +7,7 @@ ghost use lib.IntN.{natAbs, _+ℤ_, _-ℤ_, _*ℤ_};
 ghost use Rattle.arith.specs.Sums.{sumOf, upto, across};
 ghost use Rattle.market.specs.Case.{Resource as Figures, curves};
 ghost use Rattle.market.specs.CaseFile.{caseOf};
-ghost use Rattle.market.specs.Availability.{onLine};
+ghost use Rattle.market.specs.Availability.{availabilityOf};
 ghost use Rattle.market.specs.Rows.{Balance};
 ghost use Rattle.market.specs.Certificate.{certificateOf};
 ghost use Rattle.market.specs.Cost.{curvePriced};
@@ -28,6 +28,7 @@ ghost use Rattle.bounds.specs.Sizes.{mostZoneTerms, mostFlowgateTerm, mo
 ghost use Rattle.bounds.specs.Terms.{rowTerm, pricedTerm, zoneTerms, flowgateTerm, leastTerms, resourceTerms, zoneValue, limitValue, leastOf, stepBound, stepLeast, reservesLeast, curveStepLeast};
 use limits::ReserveBounds;
 use limits::ResourceLimits;
+use market::Availability;
 use market::CurveSteps;
 use market::Grains;
 use market::Kw;
@@ -212,20 +213,21 @@ fn steps_least(prices: Nets, on: bool, steps: OfferSteps) -> Grains
 
 // ---- its reserves
 
-// Their upper bounds, `on` being whether it is on-line.
+// Their upper bounds.
 pub fn reserve_bounds(
     b: &[u8],
     r: usize,
     z: usize,
     f: usize,
-    on: bool,
+    availability: Availability,
     resource: Resource,
 ) -> ReserveBounds
     requires { ⌜ (HeadIn (now b) × Valid (now b)) × Ranged resource ⌝ }
-    ensures { λ u. ⌜ ((s : Figures) → on ≡ onLine s → resource ≡ recordOf s → u ≡ reserveBoundsOf (caseOf (now (b .entry))) s) ⌝ }
+    ensures { λ u. ⌜ ((s : Figures) → availability ≡ availabilityOf s → resource ≡ recordOf s → u ≡ reserveBoundsOf (caseOf (now (b .entry))) s) ⌝ }
 {
     let terms = case_reader::terms_in(b, r, z, f);
-    limits::reserve_bounds(terms, on, resource)
+    let most = limits::max_limit(availability.on_line(), resource);
+    limits::reserve_bounds(most, terms, availability, resource)
 }
 
 fn reserves_least(prices: Nets, uppers: ReserveBounds) -> Grains
@@ -254,9 +256,10 @@ fn least_terms(
     requires { ⌜ (PricesStand (now b) (now q) r z f × (i < r)) × (resource ≡ recordOf (caseOf (now b) .resource i)) ⌝ }
     ensures { λ g. ⌜ Figure g (leastTerms (now (b .entry)) (now (q .entry)) i) mostLeastTerms ⌝ }
 {
-    let on = limits::on_line(resource);
+    let availability = limits::availability_of(resource);
+    let on = availability.on_line();
     let prices = net_prices::nets_for(b, q, r, z, f, i, on, resource);
-    let uppers = reserve_bounds(b, r, z, f, on, resource);
+    let uppers = reserve_bounds(b, r, z, f, availability, resource);
     let steps = steps_least(prices, on, case_reader::offer_steps_at(b, r, z, f, i));
     let reserves = reserves_least(prices, uppers);
     plus(steps, reserves)

@@ -108,9 +108,10 @@ fn write_resource(b: &[u8], q: &[u8], r: usize, z: usize, f: usize, i: usize, ou
 {
     let resource = case_reader::resource_at(b, r, z, f, i);
     let amounts = certificate_records::amounts_at(q, r, z, f, i);
-    let on = limits::on_line(resource);
+    let availability = limits::availability_of(resource);
+    let on = availability.on_line();
     let prices = net_prices::nets_for(b, q, r, z, f, i, on, resource);
-    let uppers = bounds::reserve_bounds(b, r, z, f, on, resource);
+    let uppers = bounds::reserve_bounds(b, r, z, f, availability, resource);
     let steps = case_reader::offer_steps_at(b, r, z, f, i);
     write_steps(prices, on, steps, amounts.energy, out);
     write_reserves(prices, amounts, uppers, &mut out[10..]);

@@ -1,5 +1,6 @@
 pub mod Amounts
-pub mod OnLine
+pub mod ByKind
 pub mod Fields
 pub mod Widths
 pub mod Products
+pub mod WhichBounds

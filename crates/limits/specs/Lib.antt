@@ -1,4 +1,3 @@
-pub mod OnLine
-pub mod OffLine
+pub mod ByKind
 pub mod Together
 pub mod Widths

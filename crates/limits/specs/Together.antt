@@ -2,8 +2,9 @@
 -- terms of the three are in range (01, 'Before the rows').
 use Rattle.market.specs.Case.{Case, Resource}
 use Rattle.market.specs.Limits.{MAX, MIN, HI, LO}
-use Rattle.market.specs.UpperBounds.{serviceBound, regulation, contingency, onLineShortTerm, offLineShortTerm}
+use Rattle.market.specs.UpperBounds.{boundWhen, serviceBound, regulation, contingency, onLineShortTerm, offLineShortTerm}
 use Rattle.market.specs.Records.{power}
+use Rattle.market.specs.declared.Availability.{Availability}
 use Rattle.market.specs.declared.Terms.{Terms}
 use Rattle.case_records.specs.Ranged.{RangedTerms}
 use Rattle.limits.specs.declared.ResourceLimits.{ResourceLimits}
@@ -16,6 +17,16 @@ pub record TermsRanged (terms : Terms) : Type 0 where
   pub regulating : RangedTerms (terms .regulating)
   pub contingency : RangedTerms (terms .contingency)
   pub short-term : RangedTerms (terms .«short_term»)
+
+-- on-line, off-line or tripped
+unfoldable pub reserveBoundsWhen : Availability → Case → Resource → ReserveBounds
+reserveBoundsWhen a c r =
+    record {
+      regulation = power (boundWhen a c r regulation);
+      contingency = power (boundWhen a c r contingency);
+      «on_line_short_term» = power (boundWhen a c r onLineShortTerm);
+      «off_line_short_term» = power (boundWhen a c r offLineShortTerm);
+    }
 
 unfoldable pub reserveBoundsOf : Case → Resource → ReserveBounds
 reserveBoundsOf c r =

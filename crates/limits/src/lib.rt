@@ -1,5 +1,5 @@
-// Which resources are on-line, their limits, and the upper bounds of what they provide (01, 'Before the rows'), on records
-// by value. Each function equates its result with the definition for all figures that the record stands for; where
+// Which resources are on-line, off-line or tripped, their limits, and the upper bounds of what they provide (01, 'Before the rows'; 02, requests 2
+// and 6), on records by value. Each function equates its result with the definition for all figures that the record stands for; where
 // numbers are added or multiplied it asks that the record is in range (`case_records`, specs/Ranged.antt).
 ghost use mathlib.Core.Path.{_≡_};
 ghost use mathlib.Core.Bool.{cond, _||_};
@@ -8,15 +8,16 @@ ghost use lib.IntN.{natAbs, pos};
 ghost use lib.Signed.{ltZ};
 ghost use Rattle.market.specs.Bits.{regulatingFlag, spinningFlag, onLineSupplemental};
 ghost use Rattle.market.specs.Case.{Case, Resource as Figures, Curve, Reserve, regulatingReserve, contingencyReserve, shortTermReserve, widthOf, energySteps};
-ghost use Rattle.market.specs.Availability.{onLine};
+ghost use Rattle.market.specs.Availability.{availabilityOf, onLine};
+ghost use Rattle.market.specs.declared.Availability.the-variants.{OnLine, OffLine};
 ghost use Rattle.market.specs.Limits.{MAX, MIN, HI, LO, rampFloor};
 ghost use Rattle.market.specs.Rows.{isSpinning};
-ghost use Rattle.market.specs.UpperBounds.{RAMP, SHARE, onLineBound, serviceBound, upperBound, energy, regulation, contingency, onLineShortTerm, offLineShortTerm, Cleared};
+ghost use Rattle.market.specs.UpperBounds.{RAMP, SHARE, onLineBound, boundWhen, serviceBound, upperBound, energy, regulation, contingency, onLineShortTerm, offLineShortTerm, Cleared};
 ghost use Rattle.market.specs.Records.{power, perMinute, stateOf, recordOf, reserveTermsOf, termsOf, offerStepsOf, curveStepsOf};
 ghost use Rattle.case_records.specs.Ranged.{UpTo, Ranged, RangedSteps, RangedTerms, RangedCurve};
-ghost use Rattle.limits.specs.OffLine.{offLineContingency};
-ghost use Rattle.limits.specs.Together.{limitsOf, TermsRanged, reserveBoundsOf};
-ghost use Rattle.limits.specs.OnLine.{atLeast500, conventionalOnLine, intermittentOnLine, externalOnLine};
+ghost use Rattle.limits.specs.Together.{limitsOf, TermsRanged, reserveBoundsWhen, reserveBoundsOf};
+ghost use Rattle.limits.specs.ByKind.{conventionalTripped, atLeast500, conventionalRuns, intermittentRuns, externalRuns};
+use market::Availability;
 use market::CurveSteps;
 use market::Kw;
 use market::KwPerMinute;
@@ -111,20 +112,27 @@ fn above_zero(output: Kw) -> bool
     v > 0
 }
 
-// ---- on-line (002, 3.1), by `&` and `|`, which work out both sides: kind and status follow no order that a processor could
-// foresee, and a test in vain costs less than a wrong branch
+// ---- on-line, off-line or tripped (002, 3.1), by `&` and `|`, which work out both sides: kind and status follow no order that
+// a processor could foresee, and a test in vain costs less than a wrong branch
+
+// Kind 1 alone, whatever breaker and output.
+fn tripped(t: State) -> bool
+    ensures { λ v. ⌜ v ≡ conventionalTripped t ⌝ }
+{
+    let trip = t.trip;
+    (t.kind == 1) & (trip.0 <= 15)
+}
 
 // Kind 1.
 fn conventional(t: State) -> bool
-    ensures { λ v. ⌜ v ≡ conventionalOnLine t ⌝ }
+    ensures { λ v. ⌜ v ≡ conventionalRuns t ⌝ }
 {
-    let trip = t.trip;
-    (t.kind == 1) & at_least_500(t.output) & (t.breaker == 1) & (trip.0 > 15)
+    (t.kind == 1) & at_least_500(t.output) & (t.breaker == 1)
 }
 
 // Kind 2.
 fn intermittent(t: State) -> bool
-    ensures { λ v. ⌜ v ≡ intermittentOnLine t ⌝ }
+    ensures { λ v. ⌜ v ≡ intermittentRuns t ⌝ }
 {
     let status = t.status;
     (t.kind == 2) & status.committed() & (t.breaker == 1) & above_zero(t.output)
@@ -132,24 +140,32 @@ fn intermittent(t: State) -> bool
 
 // Kind 3.
 fn external(t: State) -> bool
-    ensures { λ v. ⌜ v ≡ externalOnLine t ⌝ }
+    ensures { λ v. ⌜ v ≡ externalRuns t ⌝ }
 {
     let status = t.status;
     (t.kind == 3) & status.available() & (t.breaker == 1) & status.active_schedule()
 }
 
-// Of its state alone.
-pub fn state_on_line(t: State) -> bool
-    ensures { λ v. ⌜ ((s : Figures) → t ≡ stateOf s → v ≡ onLine s) ⌝ }
+// Of its state alone. Nothing else decides which of the three a resource is.
+pub fn state_availability(t: State) -> Availability
+    ensures { λ a. ⌜ ((s : Figures) → t ≡ stateOf s → a ≡ availabilityOf s) ⌝ }
 {
-    conventional(t) | intermittent(t) | external(t)
+    let trips = tripped(t);
+    let on = (conventional(t) & !trips) | intermittent(t) | external(t);
+    if on {
+        return Availability::OnLine;
+    }
+    if trips {
+        return Availability::Tripped;
+    }
+    Availability::OffLine
 }
 
-pub fn on_line(r: Resource) -> bool
-    ensures { λ t. ⌜ ((s : Figures) → r ≡ recordOf s → t ≡ onLine s) ⌝ }
+pub fn availability_of(r: Resource) -> Availability
+    ensures { λ a. ⌜ ((s : Figures) → r ≡ recordOf s → a ≡ availabilityOf s) ⌝ }
 {
     let state = r.state;
-    state_on_line(state)
+    state_availability(state)
 }
 
 // Its contingency reserve is spinning: it is on-line, `on`, and has flag 2.
@@ -164,7 +180,8 @@ pub fn spinning(on: bool, t: State) -> bool
 pub fn state_spinning(t: State) -> bool
     ensures { λ v. ⌜ ((s : Figures) → t ≡ stateOf s → v ≡ isSpinning s) ⌝ }
 {
-    if state_on_line(t) {
+    let availability = state_availability(t);
+    if availability.on_line() {
         return spinning(true, t);
     }
     false
@@ -193,7 +210,7 @@ fn in_force(released: bool, emergency: Kw, regulates: bool, regulating: Kw, econ
     economic
 }
 
-fn max_limit(on: bool, r: Resource) -> Kw
+pub fn max_limit(on: bool, r: Resource) -> Kw
     ensures { λ m. ⌜ ((s : Figures) → on ≡ onLine s → r ≡ recordOf s → m ≡ power (MAX s)) ⌝ }
 {
     let limits = r.limits;
@@ -280,7 +297,8 @@ pub fn limits_of(r: Resource) -> ResourceLimits
     requires { ⌜ Ranged r ⌝ }
     ensures { λ l. ⌜ ((s : Figures) → r ≡ recordOf s → l ≡ limitsOf s) ⌝ }
 {
-    let on = on_line(r);
+    let availability = availability_of(r);
+    let on = availability.on_line();
     let most = max_limit(on, r);
     let high = high_limit(on, r);
     ResourceLimits {
@@ -320,7 +338,7 @@ fn on_line_bound(most: Kw, terms: ReserveTerms, r: Resource) -> Kw
     lesser(ramp, lesser(share, most))
 }
 
-// ---- upper bounds of a resource's five quantities, of whether it is on-line, `on`, and of its MAX, `most`
+// ---- upper bound of a resource's energy
 
 // The widths of the energy steps together.
 fn offered(steps: OfferSteps) -> Kw
@@ -338,24 +356,24 @@ fn offered(steps: OfferSteps) -> Kw
 }
 
 // e
-pub fn energy_bound(on: bool, steps: OfferSteps) -> Kw
+pub fn energy_bound(availability: Availability, steps: OfferSteps) -> Kw
     requires { ⌜ RangedSteps steps ⌝ }
-    ensures { λ m. ⌜ ((c : Case) (s : Figures) → on ≡ onLine s → steps ≡ offerStepsOf s → m ≡ power (serviceBound c s energy)) ⌝ }
+    ensures { λ m. ⌜ ((c : Case) (s : Figures) → availability ≡ availabilityOf s → steps ≡ offerStepsOf s → m ≡ power (serviceBound c s energy)) ⌝ }
 {
-    if !on {
-        return Kw(0);
+    match availability {
+        Availability::OnLine => offered(steps),
+        Availability::OffLine => Kw(0),
+        Availability::Tripped => Kw(0),
     }
-    offered(steps)
 }
 
+// ---- of its reserves on-line, of its MAX, `most`
+
 // g
-fn regulation_bound(on: bool, most: Kw, terms: ReserveTerms, r: Resource) -> Kw
+fn regulation_bound(most: Kw, terms: ReserveTerms, r: Resource) -> Kw
     requires { ⌜ RangedTerms terms × Ranged r ⌝ }
-    ensures { λ m. ⌜ ((c : Case) (s : Figures) → on ≡ onLine s → most ≡ power (MAX s) → terms ≡ reserveTermsOf c regulatingReserve → r ≡ recordOf s → m ≡ power (serviceBound c s regulation)) ⌝ }
+    ensures { λ m. ⌜ ((c : Case) (s : Figures) → most ≡ power (MAX s) → terms ≡ reserveTermsOf c regulatingReserve → r ≡ recordOf s → m ≡ power (boundWhen OnLine c s regulation)) ⌝ }
 {
-    if !on {
-        return Kw(0);
-    }
     if !regulates(r) {
         return Kw(0);
     }
@@ -374,9 +392,36 @@ fn carries_contingency(t: State) -> bool
     status.on_line_supplemental()
 }
 
+// c
+fn contingency_bound(most: Kw, terms: ReserveTerms, r: Resource) -> Kw
+    requires { ⌜ RangedTerms terms × Ranged r ⌝ }
+    ensures { λ m. ⌜ ((c : Case) (s : Figures) → most ≡ power (MAX s) → terms ≡ reserveTermsOf c contingencyReserve → r ≡ recordOf s → m ≡ power (boundWhen OnLine c s contingency)) ⌝ }
+{
+    let state = r.state;
+    if !carries_contingency(state) {
+        return Kw(0);
+    }
+    on_line_bound(most, terms, r)
+}
+
+// s
+fn on_line_short_term_bound(most: Kw, terms: ReserveTerms, r: Resource) -> Kw
+    requires { ⌜ RangedTerms terms × Ranged r ⌝ }
+    ensures { λ m. ⌜ ((c : Case) (s : Figures) → most ≡ power (MAX s) → terms ≡ reserveTermsOf c shortTermReserve → r ≡ recordOf s → m ≡ power (boundWhen OnLine c s onLineShortTerm)) ⌝ }
+{
+    let flags = r.state.flags;
+    if !flags.on_line_short_term() {
+        return Kw(0);
+    }
+    on_line_bound(most, terms, r)
+}
+
+// ---- of its reserves off-line
+
+// c
 fn off_line_contingency_bound(terms: ReserveTerms, r: Resource) -> Kw
     requires { ⌜ RangedTerms terms × Ranged r ⌝ }
-    ensures { λ m. ⌜ ((c : Case) (s : Figures) → terms ≡ reserveTermsOf c contingencyReserve → r ≡ recordOf s → m ≡ power (offLineContingency c s)) ⌝ }
+    ensures { λ m. ⌜ ((c : Case) (s : Figures) → terms ≡ reserveTermsOf c contingencyReserve → r ≡ recordOf s → m ≡ power (boundWhen OffLine c s contingency)) ⌝ }
 {
     let flags = r.state.flags;
     if !flags.off_line_supplemental() {
@@ -389,43 +434,10 @@ fn off_line_contingency_bound(terms: ReserveTerms, r: Resource) -> Kw
     )
 }
 
-// c
-fn contingency_bound(on: bool, most: Kw, terms: ReserveTerms, r: Resource) -> Kw
-    requires { ⌜ RangedTerms terms × Ranged r ⌝ }
-    ensures { λ m. ⌜ ((c : Case) (s : Figures) → on ≡ onLine s → most ≡ power (MAX s) → terms ≡ reserveTermsOf c contingencyReserve → r ≡ recordOf s → m ≡ power (serviceBound c s contingency)) ⌝ }
-{
-    if !on {
-        return off_line_contingency_bound(terms, r);
-    }
-    let state = r.state;
-    if !carries_contingency(state) {
-        return Kw(0);
-    }
-    on_line_bound(most, terms, r)
-}
-
-// s
-fn on_line_short_term_bound(on: bool, most: Kw, terms: ReserveTerms, r: Resource) -> Kw
-    requires { ⌜ RangedTerms terms × Ranged r ⌝ }
-    ensures { λ m. ⌜ ((c : Case) (s : Figures) → on ≡ onLine s → most ≡ power (MAX s) → terms ≡ reserveTermsOf c shortTermReserve → r ≡ recordOf s → m ≡ power (serviceBound c s onLineShortTerm)) ⌝ }
-{
-    if !on {
-        return Kw(0);
-    }
-    let flags = r.state.flags;
-    if !flags.on_line_short_term() {
-        return Kw(0);
-    }
-    on_line_bound(most, terms, r)
-}
-
 // o
-fn off_line_short_term_bound(on: bool, r: Resource) -> Kw
-    ensures { λ m. ⌜ ((c : Case) (s : Figures) → on ≡ onLine s → r ≡ recordOf s → m ≡ power (serviceBound c s offLineShortTerm)) ⌝ }
+fn off_line_short_term_bound(r: Resource) -> Kw
+    ensures { λ m. ⌜ ((c : Case) (s : Figures) → r ≡ recordOf s → m ≡ power (boundWhen OffLine c s offLineShortTerm)) ⌝ }
 {
-    if on {
-        return Kw(0);
-    }
     let flags = r.state.flags;
     if !flags.off_line_short_term() {
         return Kw(0);
@@ -433,7 +445,7 @@ fn off_line_short_term_bound(on: bool, r: Resource) -> Kw
     lesser(r.limits.economic_max, r.other_powers.off_line_short_term)
 }
 
-// Of its four reserves.
+// ---- of its four reserves
 pub struct ReserveBounds {
     pub regulation: Kw,
     pub contingency: Kw,
@@ -441,16 +453,49 @@ pub struct ReserveBounds {
     pub off_line_short_term: Kw,
 }
 
-pub fn reserve_bounds(terms: Terms, on: bool, r: Resource) -> ReserveBounds
+fn on_line_bounds(most: Kw, terms: Terms, r: Resource) -> ReserveBounds
     requires { ⌜ TermsRanged terms × Ranged r ⌝ }
-    ensures { λ u. ⌜ ((c : Case) (s : Figures) → terms ≡ termsOf c → on ≡ onLine s → r ≡ recordOf s → u ≡ reserveBoundsOf c s) ⌝ }
+    ensures { λ u. ⌜ ((c : Case) (s : Figures) → most ≡ power (MAX s) → terms ≡ termsOf c → r ≡ recordOf s → u ≡ reserveBoundsWhen OnLine c s) ⌝ }
 {
-    let most = max_limit(on, r);
     ReserveBounds {
-        regulation: regulation_bound(on, most, terms.regulating, r),
-        contingency: contingency_bound(on, most, terms.contingency, r),
-        on_line_short_term: on_line_short_term_bound(on, most, terms.short_term, r),
-        off_line_short_term: off_line_short_term_bound(on, r),
+        regulation: regulation_bound(most, terms.regulating, r),
+        contingency: contingency_bound(most, terms.contingency, r),
+        on_line_short_term: on_line_short_term_bound(most, terms.short_term, r),
+        off_line_short_term: Kw(0),
+    }
+}
+
+fn off_line_bounds(terms: Terms, r: Resource) -> ReserveBounds
+    requires { ⌜ TermsRanged terms × Ranged r ⌝ }
+    ensures { λ u. ⌜ ((c : Case) (s : Figures) → terms ≡ termsOf c → r ≡ recordOf s → u ≡ reserveBoundsWhen OffLine c s) ⌝ }
+{
+    ReserveBounds {
+        regulation: Kw(0),
+        contingency: off_line_contingency_bound(terms.contingency, r),
+        on_line_short_term: Kw(0),
+        off_line_short_term: off_line_short_term_bound(r),
+    }
+}
+
+// Tripped, it provides nothing.
+pub fn reserve_bounds(
+    most: Kw,
+    terms: Terms,
+    availability: Availability,
+    r: Resource,
+) -> ReserveBounds
+    requires { ⌜ TermsRanged terms × Ranged r ⌝ }
+    ensures { λ u. ⌜ ((c : Case) (s : Figures) → most ≡ power (MAX s) → terms ≡ termsOf c → availability ≡ availabilityOf s → r ≡ recordOf s → u ≡ reserveBoundsOf c s) ⌝ }
+{
+    match availability {
+        Availability::OnLine => on_line_bounds(most, terms, r),
+        Availability::OffLine => off_line_bounds(terms, r),
+        Availability::Tripped => ReserveBounds {
+            regulation: Kw(0),
+            contingency: Kw(0),
+            on_line_short_term: Kw(0),
+            off_line_short_term: Kw(0),
+        },
     }
 }
 

@@ -22,6 +22,7 @@ use Rattle.market.specs.Cost.{Priced, EnergyStep, Whole, CurveStep, pric
 use Rattle.market.specs.Bound.{rowValue, netPrice, lowest, bound}
 use Rattle.market.specs.Charges.{rowCharge, pricedCharge, charges}
 use Rattle.market.proofs.QuantityParts.{ResourceBounded, by-kind, parts-sum}
+use Rattle.market.proofs.EnergyBounds.{energy-within}
 use Rattle.market.proofs.Steps.{filled-below, step-below}
 
 abbrev pub programme : Case → LinearProgramme Row Priced
@@ -80,10 +81,10 @@ module _ (c : Case) (z : Schedule) where
   whole-fits i s h = between h
 
   resource-fits : (i : ℕ) → ResourceBounded c z i → Each PartFits (pricedOf i)
-  unfolding part pricedUpperBound serviceBound
+  unfolding part pricedUpperBound
   resource-fits i u =
       each-join PartFits (map (EnergyStep i) (upto energySteps)) (map (Whole i) reserveServices)
-      (each-map PartFits (EnergyStep i) (upto energySteps) (each-any (λ j. PartFits (EnergyStep i j)) (upto energySteps) (λ j. between (step-below (onLine (c .resource i)) (c .resource i .stepWidth) energySteps (z (Provided i energy)) j (u .0)))))
+      (each-map PartFits (EnergyStep i) (upto energySteps) (each-any (λ j. PartFits (EnergyStep i j)) (upto energySteps) (λ j. between (step-below (onLine (c .resource i)) (c .resource i .stepWidth) energySteps (z (Provided i energy)) j (energy-within c (c .resource i) (u .0))))))
       (each-map PartFits (Whole i) reserveServices (each-imp (λ s. whole-fits i s) reserveServices (u .1)))
 
   curve-fits : (k : Curve) → Each PartFits (curvePriced k)

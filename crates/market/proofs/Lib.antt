@@ -15,6 +15,7 @@ pub mod Entries
 pub mod TakenByRows
 pub mod NetPrices
 pub mod RowSlacks
+pub mod EnergyBounds
 pub mod QuantityParts
 pub mod CaseLinearProgramme
 pub mod Lengths
@@ -26,7 +27,10 @@ pub mod Tests
 pub mod StepOrder
 pub mod CheckInWords
 pub mod LeastAndLargest
+pub mod OneOfThree
+pub mod AvailabilityTests
 pub mod LimitsInWords
+pub mod BoundsInWords
 pub mod AvailabilityInWords
 pub mod KnownRanges
 pub mod Ranges

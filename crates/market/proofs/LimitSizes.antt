@@ -6,11 +6,13 @@ use lib.IntN.{ℤ}
 use Rattle.arith.proofs.Magnitudes.{Size}
 use Rattle.market.specs.Bits.{regulatingFlag, spinningFlag, onLineSupplemental, offLineSupplementalFlag, offLineShortTermFlag, onLineShortTermFlag, emergencyMaximumFlag, emergencyMinimumFlag, selfScheduledFlag}
 use Rattle.market.specs.Case.{Case, Resource, Reserve, regulatingReserve, contingencyReserve, shortTermReserve}
-use Rattle.market.specs.Availability.{onLine}
+use Rattle.market.specs.Availability.{availabilityOf, onLine}
 use Rattle.market.specs.Limits.{MAX, MIN, HI, LO}
-use Rattle.market.specs.UpperBounds.{Service, energy, regulation, contingency, onLineShortTerm, offLineShortTerm, onLineBound, serviceBound}
+use Rattle.market.specs.UpperBounds.{Service, energy, regulation, contingency, onLineShortTerm, offLineShortTerm, onLineBound, boundWhen, serviceBound}
 use Rattle.market.specs.Rows.{high}
 use Rattle.market.specs.Sizes.{mostPower, mostLimit}
+use Rattle.market.specs.declared.Availability.{Availability}
+use Rattle.market.specs.declared.Availability.the-variants.{OnLine, OffLine, Tripped}
 use Rattle.market.proofs.Ranges.{ResourceRanges}
 
 -- ---- by cases of a test
@@ -44,12 +46,20 @@ module _ {zones : ℕ} {r : Resource} (h : ResourceRanges zones r) where
   unfolding onLineBound
   on-line-most c p = omega (arith, max-most)
 
+  when-most : (a : Availability) (c : Case) (s : Service) → boundWhen a c r s ≤ mostPower
+  unfolding boundWhen
+  when-most OnLine c energy = h .widths-to
+  when-most OnLine c regulation = most-if (regulatingFlag (r .flags)) (on-line-most c regulatingReserve) (omega arith)
+  when-most OnLine c contingency = most-if (spinningFlag (r .flags) || onLineSupplemental (r .status)) (on-line-most c contingencyReserve) (omega arith)
+  when-most OnLine c onLineShortTerm = most-if (onLineShortTermFlag (r .flags)) (on-line-most c shortTermReserve) (omega arith)
+  when-most OnLine c offLineShortTerm = omega arith
+  when-most OffLine c energy = omega arith
+  when-most OffLine c regulation = omega arith
+  when-most OffLine c contingency = most-if (offLineSupplementalFlag (r .flags)) (omega (arith, h .economic-max)) (omega arith)
+  when-most OffLine c onLineShortTerm = omega arith
+  when-most OffLine c offLineShortTerm = most-if (offLineShortTermFlag (r .flags)) (omega (arith, h .economic-max)) (omega arith)
+  when-most Tripped c s = omega arith
+
   pub service-most : (c : Case) (s : Service) → serviceBound c r s ≤ mostPower
   unfolding serviceBound
-  service-most c energy = most-if (onLine r) (h .widths-to) (omega arith)
-  service-most c regulation = most-if (onLine r) (most-if (regulatingFlag (r .flags)) (on-line-most c regulatingReserve) (omega arith)) (omega arith)
-  service-most c contingency =
-      most-if (onLine r) (most-if (spinningFlag (r .flags) || onLineSupplemental (r .status)) (on-line-most c contingencyReserve) (omega arith))
-      (most-if (offLineSupplementalFlag (r .flags)) (omega (arith, h .economic-max)) (omega arith))
-  service-most c onLineShortTerm = most-if (onLine r) (most-if (onLineShortTermFlag (r .flags)) (on-line-most c shortTermReserve) (omega arith)) (omega arith)
-  service-most c offLineShortTerm = most-if (onLine r) (omega arith) (most-if (offLineShortTermFlag (r .flags)) (omega (arith, h .economic-max)) (omega arith))
+  service-most = when-most (availabilityOf r)

@@ -11,6 +11,7 @@ use Rattle.market.specs.Availability.{onLine}
 use Rattle.market.specs.UpperBounds.{energy, reserveServices, services, Quantity, Cleared, Provided, quantities, Schedule, serviceBound, upperBound}
 use Rattle.market.specs.Rows.{Bounded}
 use Rattle.market.specs.Cost.{Priced, EnergyStep, Whole, CurveStep, pricedOf, curvePriced, priced, quantityOf, part}
+use Rattle.market.proofs.EnergyBounds.{energy-within}
 use Rattle.market.proofs.Steps.{filled-sum, energy-below}
 
 module _ (c : Case) (z : Schedule) where
@@ -39,12 +40,12 @@ module _ (c : Case) (z : Schedule) where
     byQuantity q = h q *ℤ pos (z q)
 
     resource-parts : (i : ℕ) → ResourceBounded i → sumOf byPart (pricedOf i) ≡ sumOf byQuantity (map (Provided i) services)
-    unfolding byPart byQuantity sumOf quantityOf part serviceBound
+    unfolding byPart byQuantity sumOf quantityOf part
     resource-parts i u =
         sum-append byPart (map (EnergyStep i) (upto energySteps)) (map (Whole i) reserveServices)
         ∙ ap (λ (t : ℤ). t +ℤ sumOf byPart (map (Whole i) reserveServices))
         (sum-map byPart (EnergyStep i) (upto energySteps)
-        ∙ filled-sum (h (Provided i energy)) (c .resource i .stepWidth) (z (Provided i energy)) energySteps (energy-below (onLine (c .resource i)) (widthOf (c .resource i .stepWidth) energySteps) (z (Provided i energy)) (u .0)))
+        ∙ filled-sum (h (Provided i energy)) (c .resource i .stepWidth) (z (Provided i energy)) energySteps (energy-below (onLine (c .resource i)) (widthOf (c .resource i .stepWidth) energySteps) (z (Provided i energy)) (energy-within c (c .resource i) (u .0))))
 
     curve-parts : (k : Curve) → CurveBounded k → sumOf byPart (curvePriced k) ≡ byQuantity (Cleared k)
     unfolding byPart byQuantity quantityOf part

@@ -1,5 +1,5 @@
--- On-line, MAX, MIN, HI, LO, the upper bounds and spin in the words of 01 ('Before the rows', 'Rows') and 02 (request 6), with the
--- value of each status bit and flag where it is used.
+-- On-line, off-line and tripped, MAX, MIN, HI, LO, the upper bounds and spin in the words of 01 ('Before the rows', 'Rows') and 02
+-- (requests 2 and 6), with the value of each status bit and flag where it is used.
 use mathlib.Core.Bool.{true, false}
 use mathlib.Core.List.{List, [], _∷_}
 use mathlib.Core.Logic.{_↔_, _⊎_}
@@ -9,10 +9,12 @@ use lib.IntN.{ℤ, pos, negℤ, _-ℤ_}
 use lib.Signed.{_≤ℤ_, _<ℤ_}
 use Rattle.arith.specs.Sums.{Each}
 use Rattle.market.specs.Case.{Case, Resource, Curve, Reserve, regulatingReserve, contingencyReserve, shortTermReserve, widthOf}
-use Rattle.market.specs.Availability.{onLine}
+use Rattle.market.specs.Availability.{availabilityOf, onLine}
 use Rattle.market.specs.Limits.{MAX, MIN, HI, LO, selfScheduleInReach}
 use Rattle.market.specs.UpperBounds.{Service, energy, regulation, contingency, onLineShortTerm, offLineShortTerm, Cleared, Provided, RAMP, SHARE, serviceBound, upperBound}
 use Rattle.market.specs.Rows.{spins}
+use Rattle.market.specs.Cost.{EnergyStep, Whole, pricedUpperBound}
+use Rattle.market.specs.declared.Availability.the-variants as A
 
 -- the bit of value v is 1, or 0, in n
 abbrev pub BitSet : ℕ → ℕ → Type 0
@@ -22,10 +24,13 @@ abbrev pub BitClear : ℕ → ℕ → Type 0
 BitClear v n = n / v % 2 ≡ 0
 
 abbrev pub OnLine : Resource → Type 0
-OnLine r = onLine r ≡ true
+OnLine r = availabilityOf r ≡ A.OnLine
 
 abbrev pub OffLine : Resource → Type 0
-OffLine r = onLine r ≡ false
+OffLine r = availabilityOf r ≡ A.OffLine
+
+abbrev pub Tripped : Resource → Type 0
+Tripped r = availabilityOf r ≡ A.Tripped
 
 -- v is one of them
 module _ {A : Type 0} where
@@ -39,18 +44,44 @@ LeastOf vs v = Each (λ v′. v ≤ v′) vs × OneOf vs v
 abbrev pub LargestOf : List ℤ → ℤ → Type 0
 LargestOf vs v = Each (λ v′. v′ ≤ℤ v) vs × OneOf vs v
 
--- ---- on-line
+-- ---- on-line, off-line, tripped
 abbrev pub Closed : Resource → Type 0
 Closed r = r .breaker ≡ 1
 
+abbrev pub AtLeast500 : Resource → Type 0
+AtLeast500 r = (pos 500 ≤ℤ r .output) ⊎ (r .output ≤ℤ negℤ (pos 500))
+
 pub record OnLineInWords (r : Resource) : Type 0 where
   -- kind 1: output ≥ 500 or ≤ -500, closed, trip minutes above 15
-  pub conventional : r .kind ≡ 1 → OnLine r ↔ (((pos 500 ≤ℤ r .output) ⊎ (r .output ≤ℤ negℤ (pos 500))) × Closed r × (15 < r .trip))
+  pub conventional : r .kind ≡ 1 → OnLine r ↔ (AtLeast500 r × Closed r × (15 < r .trip))
   -- kind 2: committed, closed, output > 0
   pub intermittent : r .kind ≡ 2 → OnLine r ↔ (BitSet 1 (r .status) × Closed r × (pos 0 <ℤ r .output))
   -- kind 3: available, closed, active schedule
   pub external : r .kind ≡ 3 → OnLine r ↔ (BitSet 2 (r .status) × Closed r × BitSet 4 (r .status))
   pub no-other-kind : OnLine r → (1 ≤ r .kind) × (r .kind ≤ 3)
+
+-- 02, request 2
+pub record TrippedInWords (r : Resource) : Type 0 where
+  -- kind 1, trip minutes of 15 or fewer, whatever breaker and output
+  pub tripped : Tripped r ↔ ((r .kind ≡ 1) × (r .trip ≤ 15))
+  -- so never kind 2 or 3
+  pub of-kind-1 : Tripped r → (r .kind ≡ 2) ⊎ (r .kind ≡ 3) → ⊥
+  pub tripped-not-on-line : Tripped r → onLine r ≡ false
+
+-- off-line is what is neither: kind 1, what 01 has off-line for another reason than its trip; kinds 2 and 3, as 01 has it
+pub record OffLineInWords (r : Resource) : Type 0 where
+  pub neither : OffLine r ↔ (¬ (OnLine r) × ¬ (Tripped r))
+  pub conventional : r .kind ≡ 1 → OffLine r ↔ (¬ (AtLeast500 r × Closed r) × (15 < r .trip))
+  pub intermittent : r .kind ≡ 2 → OffLine r ↔ ¬ (BitSet 1 (r .status) × Closed r × (pos 0 <ℤ r .output))
+  pub external : r .kind ≡ 3 → OffLine r ↔ ¬ (BitSet 2 (r .status) × Closed r × BitSet 4 (r .status))
+
+-- where two suffice: on-line, or one of the others
+abbrev pub NotOnLine : Resource → Type 0
+NotOnLine r = OffLine r ⊎ Tripped r
+
+pub record OneOfTwo (r : Resource) : Type 0 where
+  pub on-line : OnLine r ↔ (onLine r ≡ true)
+  pub not-on-line : NotOnLine r ↔ (onLine r ≡ false)
 
 -- ---- limits
 -- initial - 5 × ramp down, which may be below 0
@@ -75,8 +106,8 @@ pub record LimitsInWords (r : Resource) : Type 0 where
   -- and none lifts LO above HI, nor above MAX unless the ramp's floor is above it
   pub low-below-high : LO r ≤ HI r
   pub low-below-max : rampedDown r ≤ℤ pos (MAX r) → LO r ≤ MAX r
-  -- off-line: MAX and HI economic maximum, MIN and LO 0
-  pub off-line-limits : OffLine r → (MAX r ≡ r .economicMax) × (HI r ≡ r .economicMax) × (MIN r ≡ 0) × (LO r ≡ 0)
+  -- off-line, and tripped: MAX and HI economic maximum, MIN and LO 0
+  pub off-line-limits : NotOnLine r → (MAX r ≡ r .economicMax) × (HI r ≡ r .economicMax) × (MIN r ≡ 0) × (LO r ≡ 0)
 
 -- ---- upper bounds
 -- the least of RAMP, SHARE and MAX, with the reserve's own figures
@@ -100,18 +131,30 @@ pub record BoundsInWords (c : Case) (r : Resource) : Type 0 where
   pub c-off-line-clear : OffLine r → BitClear 4 (r .flags) → serviceBound c r contingency ≡ 0
   pub o-off-line : OffLine r → BitSet 8 (r .flags) → LeastOf (r .economicMax ∷ r .offLineShortTerm ∷ []) (serviceBound c r offLineShortTerm)
   pub o-off-line-clear : OffLine r → BitClear 8 (r .flags) → serviceBound c r offLineShortTerm ≡ 0
+  -- tripped: all 0
+  pub tripped : Tripped r → (s : Service) → serviceBound c r s ≡ 0
 
 -- ---- spin is c of an on-line resource with flag 2
 pub record SpinInWords (r : Resource) : Type 0 where
   pub spin-flagged : OnLine r → BitSet 2 (r .flags) → spins r ≡ pos 1
   pub spin-clear : OnLine r → BitClear 2 (r .flags) → spins r ≡ pos 0
-  pub spin-off-line : OffLine r → spins r ≡ pos 0
+  pub spin-off-line : NotOnLine r → spins r ≡ pos 0
+
+-- a tripped resource's every upper bound is 0, those of its energy steps and of what else is priced of it too
+pub record SellsNothing (c : Case) (i : ℕ) : Type 0 where
+  pub quantity : (s : Service) → upperBound c (Provided i s) ≡ 0
+  pub energy-step : (j : ℕ) → pricedUpperBound c (EnergyStep i j) ≡ 0
+  pub whole : (s : Service) → pricedUpperBound c (Whole i s) ≡ 0
 
 pub record AvailabilityInWords : Type 0 where
   pub on-line : (r : Resource) → OnLineInWords r
+  pub tripped : (r : Resource) → TrippedInWords r
+  pub off-line : (r : Resource) → OffLineInWords r
+  pub one-of-two : (r : Resource) → OneOfTwo r
   pub limits : (r : Resource) → LimitsInWords r
   pub bounds : (c : Case) (r : Resource) → BoundsInWords c r
   pub spin : (r : Resource) → SpinInWords r
   pub bound-of-provided : (c : Case) (i : ℕ) (s : Service) → upperBound c (Provided i s) ≡ serviceBound c (c .resource i) s
   -- a cleared quantity: its curve's widths together
   pub bound-of-cleared : (c : Case) (k : Curve) → upperBound c (Cleared k) ≡ widthOf (c .curveWidth k) 4
+  pub sells-nothing : (c : Case) (i : ℕ) → Tripped (c .resource i) → SellsNothing c i

@@ -1,4 +1,4 @@
--- The worked interval K and its certificate Q, as bytes, and changes of them (01, 'Worked interval'; 02, request 6).
+-- The worked interval K and its certificate Q, as bytes, and changes of them (01, 'Worked interval'; 02, requests 2 and 6).
 use mathlib.Core.List.{List, [], _∷_, _++_}
 use Prim.Native.Nat.{ℕ, _+_, _-_}
 use lib.ListN.{length, take, drop, replicate}
@@ -43,6 +43,13 @@ tripTo n = change (resourceOfK + 4) (n ∷ [])
 abbrev pub kind2Committed : List ℕ → List ℕ
 kind2Committed b = change resourceOfK (2 ∷ []) (change (resourceOfK + 3) (1 ∷ []) b)
 
+-- available, with an active schedule
+abbrev pub kind3Available : List ℕ → List ℕ
+kind3Available b = change resourceOfK (3 ∷ []) (change (resourceOfK + 3) (6 ∷ []) b)
+
+abbrev pub breakerOpen : List ℕ → List ℕ
+breakerOpen = change (resourceOfK + 2) (0 ∷ [])
+
 abbrev pub economicMaxTo : ℕ → List ℕ → List ℕ
 economicMaxTo n = change (resourceOfK + 14) (u32Bytes n)
 
@@ -53,8 +60,22 @@ selfScheduleTo n = change (resourceOfK + 58) (u32Bytes n)
 abbrev pub selfScheduledTo : ℕ → List ℕ → List ℕ
 selfScheduledTo n b = change (resourceOfK + 5) (32 ∷ []) (selfScheduleTo n b)
 
+-- flags 4 and 8, off-line limits 30,000 and 20,000, and all of a contingency requirement of 25,000 as its largest share
+abbrev pub offersOffLine : List ℕ → List ℕ
+offersOffLine b =
+    change 26 (u16Bytes 1000)
+    (change 34 (u32Bytes 25000)
+    (change (resourceOfK + 5) (12 ∷ [])
+    (change (resourceOfK + 50) (u32Bytes 30000 ++ u32Bytes 20000) b)))
+
 abbrev pub energyTo : ℕ → List ℕ → List ℕ
 energyTo n = change 60 (u32Bytes n)
+
+abbrev pub contingencyTo : ℕ → List ℕ → List ℕ
+contingencyTo n = change 68 (u32Bytes n)
+
+abbrev pub offLineShortTermTo : ℕ → List ℕ → List ℕ
+offLineShortTermTo n = change 76 (u32Bytes n)
 
 abbrev pub row1To : ℕ → List ℕ → List ℕ
 row1To n = change 24 (u32Bytes n)

@@ -13,7 +13,7 @@ use Rattle.market.specs.declared.Outcome.the-variants.{Accepted, Refused
 use Rattle.market.specs.Bytes.{u32At}
 use Rattle.market.specs.Case.{Case}
 use Rattle.market.specs.CaseFile.{caseOf}
-use Rattle.market.specs.Availability.{onLine}
+use Rattle.market.specs.Availability.{availabilityOf, onLineFigure}
 use Rattle.market.specs.UpperBounds.{Service, energy, regulation, contingency, onLineShortTerm, offLineShortTerm, Provided}
 use Rattle.market.specs.Certificate.{Certificate, certificateOf}
 use Rattle.market.specs.Prices.{LMP, zonePrices}
@@ -64,7 +64,7 @@ printedServices = energy ∷ regulation ∷ contingency ∷ onLineShortTerm ∷ 
 unfoldable pub resourceLine : Case → Certificate → ℕ → List ℕ
 resourceLine c d i =
     line (decimal (pos (suc i)))
-    (cond (onLine (c .resource i)) (pos 1) (pos 0) ∷ (map (λ s. pos (d .amount (Provided i s))) printedServices ++ (LMP c (d .price) i ∷ [])))
+    (pos (onLineFigure (availabilityOf (c .resource i))) ∷ (map (λ s. pos (d .amount (Provided i s))) printedServices ++ (LMP c (d .price) i ∷ [])))
 
 -- number, four prices
 unfoldable pub zoneLine : Certificate → ℕ → List ℕ

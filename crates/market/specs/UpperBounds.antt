@@ -5,8 +5,10 @@ use Prim.Native.Nat.{ℕ, _*_, _/_, min}
 use Rattle.arith.specs.Sums.{upto, across}
 use Rattle.market.specs.Bits.{onLineSupplemental, regulatingFlag, spinningFlag, offLineSupplementalFlag, offLineShortTermFlag, onLineShortTermFlag}
 use Rattle.market.specs.Case.{Case, Resource, Curve, curves, Reserve, regulatingReserve, contingencyReserve, shortTermReserve, widthOf, energySteps, curveSteps}
-use Rattle.market.specs.Availability.{onLine}
+use Rattle.market.specs.Availability.{availabilityOf}
 use Rattle.market.specs.Limits.{MAX}
+use Rattle.market.specs.declared.Availability.{Availability}
+use Rattle.market.specs.declared.Availability.the-variants.{OnLine, OffLine, Tripped}
 
 -- what a resource provides: e, g, c, s, o
 pub data Service : Type 0 where
@@ -42,16 +44,22 @@ SHARE c reserve = c .share reserve * c .requirement reserve / 1000
 unfoldable pub onLineBound : Case → Reserve → Resource → ℕ
 onLineBound c reserve r = min (RAMP c reserve r) (min (SHARE c reserve) (MAX r))
 
--- on-line, then off-line
+-- on-line, off-line, tripped (01; 02, request 2)
+unfoldable pub boundWhen : Availability → Case → Resource → Service → ℕ
+boundWhen OnLine c r energy = widthOf (r .stepWidth) energySteps
+boundWhen OnLine c r regulation = cond (regulatingFlag (r .flags)) (onLineBound c regulatingReserve r) 0
+boundWhen OnLine c r contingency = cond (spinningFlag (r .flags) || onLineSupplemental (r .status)) (onLineBound c contingencyReserve r) 0
+boundWhen OnLine c r onLineShortTerm = cond (onLineShortTermFlag (r .flags)) (onLineBound c shortTermReserve r) 0
+boundWhen OnLine c r offLineShortTerm = 0
+boundWhen OffLine c r energy = 0
+boundWhen OffLine c r regulation = 0
+boundWhen OffLine c r contingency = cond (offLineSupplementalFlag (r .flags)) (min (r .economicMax) (min (r .offLineResponse) (SHARE c contingencyReserve))) 0
+boundWhen OffLine c r onLineShortTerm = 0
+boundWhen OffLine c r offLineShortTerm = cond (offLineShortTermFlag (r .flags)) (min (r .economicMax) (r .offLineShortTerm)) 0
+boundWhen Tripped c r s = 0
+
 unfoldable pub serviceBound : Case → Resource → Service → ℕ
-serviceBound c r energy = cond (onLine r) (widthOf (r .stepWidth) energySteps) 0
-serviceBound c r regulation = cond (onLine r) (cond (regulatingFlag (r .flags)) (onLineBound c regulatingReserve r) 0) 0
-serviceBound c r contingency =
-    cond (onLine r)
-    (cond (spinningFlag (r .flags) || onLineSupplemental (r .status)) (onLineBound c contingencyReserve r) 0)
-    (cond (offLineSupplementalFlag (r .flags)) (min (r .economicMax) (min (r .offLineResponse) (SHARE c contingencyReserve))) 0)
-serviceBound c r onLineShortTerm = cond (onLine r) (cond (onLineShortTermFlag (r .flags)) (onLineBound c shortTermReserve r) 0) 0
-serviceBound c r offLineShortTerm = cond (onLine r) 0 (cond (offLineShortTermFlag (r .flags)) (min (r .economicMax) (r .offLineShortTerm)) 0)
+serviceBound c r = boundWhen (availabilityOf r) c r
 
 unfoldable pub upperBound : Case → Quantity → ℕ
 upperBound c (Cleared k) = widthOf (c .curveWidth k) curveSteps

@@ -1,7 +1,7 @@
 -- (a) to (l) of the worked interval, one list under one statement; LO of a self-schedule out of reach; each refusal number on its
 -- own ground; and the order of prices, charges and a printed line (01, 'Worked interval', 'How each operation refuses',
 -- 'Certificate, cost, bound, charges'; 02, request 6).
-use mathlib.Core.Bool.{Bool, true, false, cond, _&&_}
+use mathlib.Core.Bool.{Bool, true, false, _&&_}
 use mathlib.Core.List.{List, [], _∷_, _++_, map}
 use Prim.Native.Nat.{ℕ, _+_}
 use lib.Dec.{T}
@@ -9,13 +9,14 @@ use lib.Signed.{leZ}
 use lib.ListN.{take}
 use lib.IntN.{ℤ, pos, negℤ}
 use Rattle.arith.specs.Sums.{all}
+use Rattle.market.specs.declared.Availability.{Availability}
 use Rattle.market.specs.declared.CaseAnswer.{CaseAnswer}
 use Rattle.market.specs.declared.CheckResult.{CheckResult}
 use Rattle.market.specs.declared.Answer.{Answer}
 use Rattle.market.specs.declared.Count.{Count}
 use Rattle.market.specs.Case.{regulatingReserve}
 use Rattle.market.specs.CaseFile.{caseOf}
-use Rattle.market.specs.Availability.{onLine}
+use Rattle.market.specs.Availability.{availabilityOf, onLineFigure}
 use Rattle.market.specs.Limits.{MAX, HI, LO}
 use Rattle.market.specs.UpperBounds.{RAMP}
 use Rattle.market.specs.Certificate.{amountsPlace, certificateOf}
@@ -48,9 +49,12 @@ accepted cost bound gap = pos 0 ∷ pos 0 ∷ pos cost ∷ pos bound ∷ pos gap
 abbrev pub refused : ℕ → ℕ → List ℤ
 refused n at = pos n ∷ pos at ∷ pos 0 ∷ pos 0 ∷ pos 0 ∷ []
 
--- 1 if the resource is on-line
+abbrev pub availabilityIn : List ℕ → Availability
+availabilityIn b = availabilityOf (caseOf b .resource 0)
+
+-- what is printed for on-line
 abbrev pub isOnLine : List ℕ → ℤ
-isOnLine b = cond (onLine (caseOf b .resource 0)) (pos 1) (pos 0)
+isOnLine b = pos (onLineFigure (availabilityIn b))
 
 -- the text of (a), to the byte
 abbrev pub textOfK : List ℕ

@@ -1,7 +1,9 @@
 // The types of a dispatch interval: units, status bits and flags, records of the case, refusals and answers.
 // The definitions of document 01 stand in specs/, what is proved of them in proofs/.
 ghost use mathlib.Core.Path.{_≡_};
+ghost use lib.IntN.{pos};
 ghost use Rattle.market.specs.Bits.{committed, available, activeSchedule, onLineSupplemental, regulatingFlag, spinningFlag, offLineSupplementalFlag, offLineShortTermFlag, emergencyMaximumFlag, selfScheduledFlag, emergencyMinimumFlag, onLineShortTermFlag, statusOf, statusBits};
+ghost use Rattle.market.specs.Availability.{onLineFigure, isOnLine};
 ghost use Rattle.market.specs.CaseFile.{flowgatePlace, caseSize};
 ghost use Rattle.market.specs.CaseCheck.{CountsWithin};
 ghost use Rattle.market.specs.Certificate.{amountsPlace, certificateSize};
@@ -286,6 +288,37 @@ impl Flags {
         ensures { λ r. ⌜ r ≡ onLineShortTermFlag (self .0) ⌝ }
     {
         self.0 / Flags::ON_LINE_SHORT_TERM.0 % 2 == 1
+    }
+}
+
+// Whether a resource is on-line, off-line or tripped (01, 'Before the rows'; 02, request 2).
+pub enum Availability {
+    OnLine,
+    OffLine,
+    Tripped,
+}
+
+impl Availability {
+    // On-line, and neither off-line nor tripped.
+    pub fn on_line(self) -> bool
+        ensures { λ r. ⌜ r ≡ isOnLine self ⌝ }
+    {
+        match self {
+            Availability::OnLine => true,
+            Availability::OffLine => false,
+            Availability::Tripped => false,
+        }
+    }
+
+    // What the program prints for on-line.
+    pub fn printed(self) -> i64
+        ensures { λ r. ⌜ r ≡ pos (onLineFigure self) ⌝ }
+    {
+        match self {
+            Availability::OnLine => 1,
+            Availability::OffLine => 0,
+            Availability::Tripped => 0,
+        }
     }
 }
 

@@ -19,7 +19,8 @@ use Rattle.market.specs.CaseFile.{caseOf}
 use Rattle.market.specs.CaseCheck.{mostResources, mostZones}
 use Rattle.case_records.specs.Places.{CaseBytes}
 use Rattle.case_records.proofs.Places.{resources-is, zones-is}
-use Rattle.market.specs.Availability.{onLine}
+use Rattle.market.specs.Availability.{availabilityOf, onLineFigure}
+use Rattle.market.specs.declared.Availability.{Availability}
 use Rattle.market.specs.Certificate.{Certificate}
 use Rattle.market.specs.Prices.{LMP, zonePrices}
 use Rattle.market.specs.Records.{amountsOf, millicents}
@@ -29,7 +30,7 @@ use Rattle.prices.specs.declared.ZonePrices.{ZonePrices}
 use Rattle.prices.specs.ZonePrices.{zonePricesOf}
 use Rattle.decimals.proofs.Digits.{decimal-most}
 use Rattle.decimals.proofs.Front.{across-most, line-most}
-use Rattle.printed_lines.specs.Lines.{truth, amountFigures, valueLine, boundAndGap, headLines, resourceText, zoneText, scheduleLines}
+use Rattle.printed_lines.specs.Lines.{amountFigures, valueLine, boundAndGap, headLines, resourceText, zoneText, scheduleLines}
 use Rattle.printed_lines.specs.Room.{mostValueLine, mostBoundAndGap, mostHead, mostResourceLine, mostZoneLine, mostSchedule, mostRefusal}
 
 -- ---- refusals
@@ -69,11 +70,11 @@ head-most v = omega (arith, length-append (valueLine costWord (v .cost)) (boundA
 
 -- ---- resources and zones
 -- figures that are those of a record
-pub resource-text-is : (i : ℕ) (on : Bool) (a : Amounts) (p : Millicents) {n t e g c s o l : ℤ} → n ≡ pos (suc i) → t ≡ truth on
+pub resource-text-is : (i : ℕ) (v : Availability) (a : Amounts) (p : Millicents) {n t e g c s o l : ℤ} → n ≡ pos (suc i) → t ≡ pos (onLineFigure v)
     → e ≡ a .energy .0 → g ≡ a .regulation .0 → c ≡ a .contingency .0 → s ≡ a .«on_line_short_term» .0 → o ≡ a .«off_line_short_term» .0 → l ≡ p .0
-    → line (decimal n) (t ∷ e ∷ g ∷ c ∷ s ∷ o ∷ l ∷ []) ≡ resourceText i on a p
+    → line (decimal n) (t ∷ e ∷ g ∷ c ∷ s ∷ o ∷ l ∷ []) ≡ resourceText i v a p
 unfolding resourceText
-resource-text-is i on a p en et ee eg ec es eo el = rw (en, et, ee, eg, ec, es, eo, el)
+resource-text-is i v a p en et ee eg ec es eo el = rw (en, et, ee, eg, ec, es, eo, el)
 
 pub zone-text-is : (z : ℕ) (p : ZonePrices) {n g s m h : ℤ} → n ≡ pos (suc z)
     → g ≡ p .regulating .0 → s ≡ p .spinning .0 → m ≡ p .supplemental .0 → h ≡ p .«short_term» .0
@@ -82,10 +83,10 @@ unfolding zoneText
 zone-text-is z p en eg es em eh = rw (en, eg, es, em, eh)
 
 module _ (c : Case) (k : Certificate) where
-  pub resource-line-is : (i : ℕ) (on : Bool) (a : Amounts) (p : Millicents) → on ≡ onLine (c .resource i) → a ≡ amountsOf (k .amount) i → p ≡ millicents (LMP c (k .price) i)
-      → resourceText i on a p ≡ resourceLine c k i
+  pub resource-line-is : (i : ℕ) (v : Availability) (a : Amounts) (p : Millicents) → v ≡ availabilityOf (c .resource i) → a ≡ amountsOf (k .amount) i → p ≡ millicents (LMP c (k .price) i)
+      → resourceText i v a p ≡ resourceLine c k i
   unfolding resourceText resourceLine amountsOf
-  resource-line-is i on a p eo ea ep = rw (eo, ea, ep)
+  resource-line-is i v a p ev ea ep = rw (ev, ea, ep)
 
   pub zone-line-is : (z : ℕ) (p : ZonePrices) → p ≡ zonePricesOf (k .price) z → zoneText z p ≡ zoneLine k z
   unfolding zoneText zoneLine zonePricesOf
@@ -94,10 +95,10 @@ module _ (c : Case) (k : Certificate) where
   pub resource-most : (i : ℕ) → length (resourceLine c k i) ≤ mostResourceLine
   unfolding resourceText
   resource-most i =
-      let on = onLine (c .resource i) in
+      let v = availabilityOf (c .resource i) in
       let a = amountsOf (k .amount) i in
       let p = millicents (LMP c (k .price) i) in
-      rw (← (resource-line-is i on a p refl refl refl)) (omega (arith, line-most (decimal (pos (suc i))) (truth on ∷ (amountFigures a ++ (p .0 ∷ []))), decimal-most (pos (suc i))))
+      rw (← (resource-line-is i v a p refl refl refl)) (omega (arith, line-most (decimal (pos (suc i))) (pos (onLineFigure v) ∷ (amountFigures a ++ (p .0 ∷ []))), decimal-most (pos (suc i))))
 
   pub zone-most : (z : ℕ) → length (zoneLine k z) ≤ mostZoneLine
   unfolding zoneLine

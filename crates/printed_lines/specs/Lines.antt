@@ -1,9 +1,10 @@
 -- The program's lines, of records by value (market, specs/Program.antt has the same of a case and a certificate).
-use mathlib.Core.Bool.{Bool, cond}
 use mathlib.Core.List.{List, [], _∷_, _++_}
 use Prim.Native.Nat.{ℕ, suc}
 use lib.IntN.{ℤ, pos}
 use Rattle.market.specs.declared.Amounts.{Amounts}
+use Rattle.market.specs.declared.Availability.{Availability}
+use Rattle.market.specs.Availability.{onLineFigure}
 use Rattle.market.specs.declared.Grains.{Grains}
 use Rattle.market.specs.declared.Millicents.{Millicents}
 use Rattle.market.specs.declared.Valuation.{Valuation}
@@ -13,9 +14,6 @@ use Rattle.market.specs.Certificate.{Certificate}
 use Rattle.arith.specs.Sums.{upto, across}
 use Rattle.prices.specs.declared.ZonePrices.{ZonePrices}
 use Rattle.price_list.specs.Numbers.{numbersOf}
-
-abbrev pub truth : Bool → ℤ
-truth t = cond t (pos 1) (pos 0)
 
 abbrev pub valueLine : List ℕ → Grains → List ℕ
 valueLine word value = line word (value .0 ∷ [])
@@ -30,8 +28,8 @@ headLines values = valueLine costWord (values .cost) ++ boundAndGap values
 abbrev pub amountFigures : Amounts → List ℤ
 amountFigures amounts = amounts .energy .0 ∷ amounts .regulation .0 ∷ amounts .contingency .0 ∷ amounts .«on_line_short_term» .0 ∷ amounts .«off_line_short_term» .0 ∷ []
 
-unfoldable pub resourceText : ℕ → Bool → Amounts → Millicents → List ℕ
-resourceText i on amounts price = line (decimal (pos (suc i))) (truth on ∷ (amountFigures amounts ++ (price .0 ∷ [])))
+unfoldable pub resourceText : ℕ → Availability → Amounts → Millicents → List ℕ
+resourceText i availability amounts price = line (decimal (pos (suc i))) (pos (onLineFigure availability) ∷ (amountFigures amounts ++ (price .0 ∷ [])))
 
 unfoldable pub zoneText : ℕ → ZonePrices → List ℕ
 zoneText z prices = line zoneWord (pos (suc z) ∷ numbersOf prices)

@@ -11,9 +11,10 @@ ghost use Rattle.market.specs.Certificate.{certificateOf};
 ghost use Rattle.market.specs.Program.{refusalLine, resourceLine, zoneLine, report as reportOf};
 ghost use Rattle.prices.specs.Standing.{PricesStand};
 ghost use Rattle.decimals.specs.Written.{Wrote};
-ghost use Rattle.printed_lines.specs.Lines.{truth, valueLine, boundAndGap, headLines, resourceText, zoneText, scheduleLines};
+ghost use Rattle.printed_lines.specs.Lines.{valueLine, boundAndGap, headLines, resourceText, zoneText, scheduleLines};
 ghost use Rattle.printed_lines.specs.Room.{mostValueLine, mostBoundAndGap, mostHead, mostSchedule, mostResourceLine, mostZoneLine, mostRefusal, mostText};
 use market::Amounts;
+use market::Availability;
 use market::Counts;
 use market::Grains;
 use market::Millicents;
@@ -66,22 +67,19 @@ fn head_lines(v: Valuation, out: &mut [u8]) -> usize
 
 // ---- resources
 
-fn truth_figure(t: bool) -> i64
-    ensures { λ v. ⌜ v ≡ truth t ⌝ }
-{
-    if t {
-        return 1;
-    }
-    0
-}
-
-fn resource_text(i: usize, on: bool, a: Amounts, price: Millicents, out: &mut [u8]) -> usize
+fn resource_text(
+    i: usize,
+    availability: Availability,
+    a: Amounts,
+    price: Millicents,
+    out: &mut [u8],
+) -> usize
     requires { ⌜ (i < mostResources) × (mostResourceLine ≤ length (now out)) ⌝ }
-    ensures { λ r. ⌜ Wrote (resourceText i on a price) (now (out .entry)) (now (out .exit)) r ⌝ }
+    ensures { λ r. ⌜ Wrote (resourceText i availability a price) (now (out .entry)) (now (out .exit)) r ⌝ }
 {
-    let flag = truth_figure(on);
+    let on_line = availability.printed();
     let figures = [
-        flag,
+        on_line,
         a.energy.0,
         a.regulation.0,
         a.contingency.0,
@@ -106,10 +104,10 @@ fn resource_line(
     ensures { λ n. ⌜ Wrote (resourceLine (caseOf (now (b .entry))) (certificateOf (now (q .entry))) i) (now (out .entry)) (now (out .exit)) n ⌝ }
 {
     let record = case_reader::resource_at(b, r, z, f, i);
-    let on = limits::on_line(record);
+    let availability = limits::availability_of(record);
     let a = certificate_records::amounts_at(q, r, z, f, i);
     let price = prices::lmp(b, q, r, z, f, i);
-    resource_text(i, on, a, price, out)
+    resource_text(i, availability, a, price, out)
 }
 
 fn resource_lines(b: &[u8], q: &[u8], r: usize, z: usize, f: usize, out: &mut [u8]) -> usize

@@ -63,14 +63,16 @@ fn service_bounds(r: Resource, steps: OfferSteps, terms: Terms) -> Amounts
     requires { ⌜ Ranged r × (RangedSteps steps × TermsRanged terms) ⌝ }
     ensures { λ m. ⌜ ((c : Case) (i : ℕ) → terms ≡ termsOf c → r ≡ recordOf (c .resource i) → steps ≡ offerStepsOf (c .resource i) → m ≡ amountsOf (upperBound c) i) ⌝ }
 {
-    let on = limits::on_line(r);
-    let reserves = limits::reserve_bounds(terms, on, r);
+    let availability = limits::availability_of(r);
+    let energy = limits::energy_bound(availability, steps);
+    let most = limits::max_limit(availability.on_line(), r);
+    let reserves = limits::reserve_bounds(most, terms, availability, r);
     let regulation = reserves.regulation;
     let contingency = reserves.contingency;
     let on_line_short_term = reserves.on_line_short_term;
     let off_line_short_term = reserves.off_line_short_term;
     Amounts {
-        energy: limits::energy_bound(on, steps),
+        energy,
         regulation,
         contingency,
         on_line_short_term,

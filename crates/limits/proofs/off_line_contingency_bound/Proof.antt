@@ -2,19 +2,18 @@
 use Prim.Native.Nat.{min}
 use borrow.Author.Needs.{needs}
 use Rattle.market.specs.Case.{contingencyReserve}
-use Rattle.market.specs.UpperBounds.{SHARE}
+use Rattle.market.specs.UpperBounds.{SHARE, boundWhen}
 use Rattle.market.specs.Bits.{offLineSupplementalFlag}
 use Rattle.limits.proofs.Fields.{economic-max-is, off-line-response-is, flags-are, told-false, told-true}
-use Rattle.limits.specs.OffLine.{offLineContingency}
 use Rattle.limits.proofs.off_line_contingency_bound.Statement.{statement}
 use Rattle.limits.proofs.off_line_contingency_bound.Tie as tie
 
 returns : tie.Need-returns
-unfolding offLineContingency
+unfolding boundWhen
 returns c = λ k s t e. rw (told-false (flags-are s e offLineSupplementalFlag (c .before .off-line-supplemental .ensures)) (c .if1 .taken))
 
 returns-2 : tie.Need-returns-2
-unfolding offLineContingency
+unfolding boundWhen
 returns-2 c = λ k s t e. rw (
     told-true (flags-are s e offLineSupplementalFlag (c .before .before .before .before .off-line-supplemental .ensures)) (c .before .before .before .if1 .left))
     (c .lesser2 .ensures (s .economicMax) (min (s .offLineResponse) (SHARE k contingencyReserve)) (economic-max-is s e)

@@ -11,7 +11,7 @@ resource-text-requires : tie.Need-resource-text-requires
 resource-text-requires c κs = let s = c .before .before .before .before .before .before .before .before in (omega (arith, s .pre .0 .case-bytes .counts .most-resources), s .pre .1 .1)
 
 returns : tie.Need-returns
-returns c = let s = c .before .before .before .before .before .before .before .before .before .before .before in let w = c .before .before .resource-text in let p = c .before .before .before .before .lmp in let a = c .before .before .before .before .before .amounts-at in let o = c .before .before .before .before .before .before .on-line in let x = c .before .before .before .before .before .before .before .resource-at in let b = s .args .b .now in let i = s .args .i in rw (← (resource-line-is (caseOf b) (certificateOf (s .args .q .now)) i (o .result) (a .result) (p .result) (o .ensures (caseOf b .resource i) (x .ensures)) (a .ensures) (p .ensures))) (w .ensures)
+returns c = let s = c .before .before .before .before .before .before .before .before .before .before .before in let w = c .before .before .resource-text in let p = c .before .before .before .before .lmp in let a = c .before .before .before .before .before .amounts-at in let o = c .before .before .before .before .before .before .availability-of in let x = c .before .before .before .before .before .before .before .resource-at in let b = s .args .b .now in let i = s .args .i in rw (← (resource-line-is (caseOf b) (certificateOf (s .args .q .now)) i (o .result) (a .result) (p .result) (o .ensures (caseOf b .resource i) (x .ensures)) (a .ensures) (p .ensures))) (w .ensures)
 
 pub resource-line-spec : {M : Type 1} → statement M
 resource-line-spec =

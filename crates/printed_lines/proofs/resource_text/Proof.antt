@@ -14,8 +14,8 @@ add-number : tie.Need-add-number
 add-number c = next-fits (c .before .before .before .before .args .i) (omega arith)
 
 returns : tie.Need-returns
-returns c = let s = c .before .before .before .before .before .before .before .before .before in let g = c .before .before .before .before .before .before .struct-told .given in let h = c .before .before .before .before .before .struct-told2 .given in let t = c .before .before .before .before .before .before .before .truth-figure in let i = s .args .i in let a = s .args .a in let p = s .args .price in
-    rw (← (resource-text-is i (s .args .on) a p (next-number i (omega arith)) (toZ-ofZ (sfits-of {w = w64} (t .ok)) ∙ t .ensures) (read-back {z = a .energy .0} (g .0 .1 .1 .0 .1)) (read-back {z = a .regulation .0} (g .1 .0 .1 .1 .0 .1)) (read-back {z = a .contingency .0} (g .1 .1 .0 .1 .1 .0 .1)) (read-back {z = a .«on_line_short_term» .0} (g .1 .1 .1 .0 .1 .1 .0 .1)) (read-back {z = a .«off_line_short_term» .0} (g .1 .1 .1 .1 .0 .1 .1 .0 .1)) (read-back {z = p .0} (h .0 .1)))) (c .before .before .write-numbered .ensures)
+returns c = let s = c .before .before .before .before .before .before .before .before .before in let g = c .before .before .before .before .before .before .struct-told .given in let h = c .before .before .before .before .before .struct-told2 .given in let t = c .before .before .before .before .before .before .before .printed in let i = s .args .i in let a = s .args .a in let p = s .args .price in
+    rw (← (resource-text-is i (s .args .availability) a p (next-number i (omega arith)) (toZ-ofZ (sfits-of {w = w64} (t .ok)) ∙ t .ensures) (read-back {z = a .energy .0} (g .0 .1 .1 .0 .1)) (read-back {z = a .regulation .0} (g .1 .0 .1 .1 .0 .1)) (read-back {z = a .contingency .0} (g .1 .1 .0 .1 .1 .0 .1)) (read-back {z = a .«on_line_short_term» .0} (g .1 .1 .1 .0 .1 .1 .0 .1)) (read-back {z = a .«off_line_short_term» .0} (g .1 .1 .1 .1 .0 .1 .1 .0 .1)) (read-back {z = p .0} (h .0 .1)))) (c .before .before .write-numbered .ensures)
 
 pub resource-text-spec : {M : Type 1} → statement M
 resource-text-spec =
