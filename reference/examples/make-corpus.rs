@@ -3,7 +3,7 @@
 //!
 //! Usage: make-corpus DIR
 
-use nostwier_reference::case::{flag, status, Flowgate, Kind};
+use nostwier_reference::case::{flag, status, Curve, Flowgate, Kind, Step};
 use nostwier_reference::damage::{every_damage, Damaged};
 use nostwier_reference::generate::{pair_of_counts, pair_of_scale, Pair, Scale};
 use nostwier_reference::layout::Counts;
@@ -31,7 +31,8 @@ fn main() -> ExitCode {
 
 fn make(directory: &Path) -> io::Result<()> {
     let pairs = Corpus::new(directory.join("pairs"))?;
-    for (name, pair) in worked_pairs().into_iter().chain(self_scheduled_pairs()) {
+    let worked = [worked_pairs(), self_scheduled_pairs(), tripped_pairs()];
+    for (name, pair) in worked.into_iter().flatten() {
         pairs.pair(&format!("worked-{name}"), &pair.case_file(), &pair.certificate_file())?;
     }
     for (name, pair) in generated_pairs() {
@@ -165,6 +166,58 @@ fn self_scheduled_pairs() -> Vec<(&'static str, Pair)> {
         (name, pair)
     })
     .collect()
+}
+
+/// K with a trip of 15 minutes ago (02, request 2). With demand 0, an open
+/// breaker and an offer it may give no off-line reserve, which it may at 16; with
+/// a closed breaker and output it has no energy to sell, whatever row 1's price.
+/// An intermittent resource is on-line as without a trip.
+fn tripped_pairs() -> Vec<(&'static str, Pair)> {
+    let tripped = |minutes: i64, demand: i64, change: &dyn Fn(&mut Pair)| {
+        let mut pair = worked::pair();
+        pair.case.demand = demand;
+        pair.case.resources[0].minutes_since_trip = minutes;
+        pair.certificate.amounts[ENERGY] = demand;
+        change(&mut pair);
+        pair
+    };
+    let dear_energy = |pair: &mut Pair| pair.certificate.row_prices[0] = 3_500_000;
+    let intermittent = |pair: &mut Pair| {
+        pair.case.resources[0].kind = Kind::Intermittent;
+        pair.case.resources[0].status = status::COMMITTED;
+    };
+    vec![
+        ("tripped-short-term", tripped(15, 0, &offline_short_term)),
+        ("tripped-short-term-at-16", tripped(16, 0, &offline_short_term)),
+        ("tripped-contingency", tripped(15, 0, &offline_contingency)),
+        ("tripped-no-energy", tripped(15, 0, &dear_energy)),
+        ("tripped-intermittent", tripped(15, 60_000, &intermittent)),
+    ]
+}
+
+/// 10,000 kW of off-line short-term reserve at the price of its offer, for a
+/// curve that is worth more.
+fn offline_short_term(pair: &mut Pair) {
+    pair.case.curves[Curve::ShortTerm as usize][0] = Step { width: 10_000, price: 500 };
+    let resource = &mut pair.case.resources[0];
+    resource.breaker_closed = false;
+    resource.flags = flag::OFFLINE_SHORT_TERM;
+    resource.offline_short_term = 20_000;
+    resource.offline_short_term_price = 300;
+    pair.certificate.amounts[Curve::ShortTerm as usize] = 10_000;
+    pair.certificate.amounts[ENERGY + 4] = 10_000;
+    pair.certificate.row_prices[4] = 300_000;
+}
+
+/// 10,000 kW of contingency reserve, off-line.
+fn offline_contingency(pair: &mut Pair) {
+    pair.case.contingency.share = 1000;
+    pair.case.contingency.requirement = 20_000;
+    let resource = &mut pair.case.resources[0];
+    resource.breaker_closed = false;
+    resource.flags = flag::OFFLINE_SUPPLEMENTAL;
+    resource.offline_response = 20_000;
+    pair.certificate.amounts[ENERGY + 2] = 10_000;
 }
 
 fn counts(resources: usize, zones: usize, flowgates: usize) -> Counts {

@@ -26,7 +26,7 @@ pub fn listed(case: &Case, standings: &[Standing]) -> Vec<Listed> {
             list.push(Listed {
                 index: index_of(resource, Product::Energy),
                 price: THOUSAND * step.price,
-                upper_bound: if standing.online { step.width } else { 0 },
+                upper_bound: if standing.is_online() { step.width } else { 0 },
             });
         }
         for (product, price) in [

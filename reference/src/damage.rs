@@ -11,7 +11,7 @@ use crate::layout::{
 use crate::random::Random;
 use crate::refusal::Refusal;
 use crate::rows::{index_of, rows};
-use crate::standing::{standings, Product};
+use crate::standing::{offline_standing, operating_state, standings, OperatingState, Product};
 
 /// A damaged pair, what was done to it, and how it must be refused.
 #[derive(Clone, Debug)]
@@ -35,9 +35,9 @@ const KINDS: [fn(&Pair) -> Vec<Damaged>; 9] = [
     broken_rows,
 ];
 
-/// Every damage of the systematic kinds.
+/// Every damage of the systematic kinds, and what tripped resources may not sell.
 pub fn every_damage(pair: &Pair) -> Vec<Damaged> {
-    KINDS.iter().flat_map(|kind| kind(pair)).collect()
+    KINDS.iter().flat_map(|kind| kind(pair)).chain(reserve_of_tripped(pair)).collect()
 }
 
 /// One systematic damage, its kind drawn first so that no kind is rare.
@@ -115,6 +115,26 @@ pub fn quantities_above_their_bounds(pair: &Pair) -> Vec<Damaged> {
             certificate: with_certificate(pair, certificate).certificate_file(),
             refusal: Refusal::Quantity { place },
         });
+    }
+    list
+}
+
+/// A tripped resource with all the contingency or off-line short-term reserve
+/// that it could give if it were off-line: 13 (02, request 2).
+pub fn reserve_of_tripped(pair: &Pair) -> Vec<Damaged> {
+    let mut list = Vec::new();
+    for (index, resource) in pair.case.resources.iter().enumerate() {
+        let offline = offline_standing(&pair.case, resource);
+        for product in [Product::Contingency, Product::OfflineShortTerm] {
+            let most = offline.bounds[product as usize];
+            if operating_state(resource) == OperatingState::Tripped && most > 0 {
+                let mut certificate = pair.certificate.clone();
+                certificate.amounts[index_of(index, product)] = most;
+                let refusal = Refusal::Quantity { place: index_of(index, product) + 1 };
+                let what = format!("tripped resource {index} gives reserve");
+                list.push(of_pair(what, &with_certificate(pair, certificate), refusal));
+            }
+        }
     }
     list
 }
@@ -440,7 +460,7 @@ fn broken_resource_rows(pair: &Pair) -> Vec<Damaged> {
     let standings = standings(&pair.case);
     let mut list = Vec::new();
     for (resource, standing) in standings.iter().enumerate() {
-        if !standing.online {
+        if !standing.is_online() {
             continue;
         }
         let first = 5 + 4 * counts.zones + counts.flowgates + 5 * resource + 1;

@@ -11,7 +11,9 @@ use crate::layout::{
 };
 use crate::random::Random;
 use crate::rows::{index_of, rows};
-use crate::standing::{is_online, standing, standings, Product, Standing};
+use crate::standing::{
+    offline_standing, operating_state, standing, standings, OperatingState, Product, Standing,
+};
 use crate::units::{Cents, Kw};
 
 /// A case and a certificate for it, with their files.
@@ -98,11 +100,14 @@ pub fn random_pair(random: &mut Random) -> Pair {
 }
 
 /// An accepted pair as `pair_of_counts` draws it, with some self-schedules out
-/// of reach. These are drawn aside: what is drawn next is the same without them.
+/// of reach and more resources that tripped 15 minutes ago or about then. These
+/// are drawn aside: what is drawn next is the same without them.
 pub fn varied_pair(random: &mut Random, counts: Counts) -> Pair {
-    let mut pair = pair_of_counts(random, counts);
+    let mut pair = drawn_pair_of_counts(random, counts);
     let mut aside = Random::new(random.clone().bits());
     lift_self_schedules(&mut aside, &mut pair);
+    move_trips(&mut aside, &mut pair.case);
+    withdraw_tripped(&mut pair);
     pair
 }
 
@@ -114,7 +119,7 @@ fn lift_self_schedules(random: &mut Random, pair: &mut Pair) {
         let resource = &mut pair.case.resources[index];
         let lesser = standing.high.min(standing.maximum);
         let larger = standing.high.max(standing.maximum);
-        let scheduled = standing.online && resource.has_flag(flag::SELF_SCHEDULED);
+        let scheduled = standing.is_online() && resource.has_flag(flag::SELF_SCHEDULED);
         if scheduled && pair.certificate.amounts[index_of(index, Product::Energy)] == lesser {
             let own = resource.self_schedule;
             resource.self_schedule =
@@ -123,19 +128,53 @@ fn lift_self_schedules(random: &mut Random, pair: &mut Pair) {
     }
 }
 
+/// Moves trips to both sides of the 15 minutes, for every kind of resource. An
+/// on-line one stays on-line, since its energy meets demand, and a tripped one
+/// stays tripped; an off-line conventional one may become tripped. Off-line offers
+/// show whether a trip takes them away.
+fn move_trips(random: &mut Random, case: &mut Case) {
+    for resource in &mut case.resources {
+        let own = resource.minutes_since_trip;
+        resource.minutes_since_trip = match (resource.kind, operating_state(resource)) {
+            (Kind::Conventional, OperatingState::Online) => random.pick(&[own, own, 16, 17]),
+            (Kind::Conventional, OperatingState::Offline) => random.pick(&[own, 0, 14, 15, 16]),
+            (Kind::Conventional, OperatingState::Tripped) => random.pick(&[own, 14, 15]),
+            _ => random.pick(&[own, 14, 15, 16]),
+        };
+        if operating_state(resource) != OperatingState::Online && random.percent(50) {
+            resource.flags |= flag::OFFLINE_SUPPLEMENTAL | flag::OFFLINE_SHORT_TERM;
+        }
+    }
+}
+
 /// An accepted pair of the given size and any scale, now and then filled to
 /// the brim.
 pub fn pair_of_counts(random: &mut Random, counts: Counts) -> Pair {
+    let mut pair = drawn_pair_of_counts(random, counts);
+    withdraw_tripped(&mut pair);
+    pair
+}
+
+/// An accepted pair of the given size and scale.
+pub fn pair_of_scale(random: &mut Random, counts: Counts, scale: Scale) -> Pair {
+    let mut pair = drawn_pair_of_scale(random, counts, scale);
+    withdraw_tripped(&mut pair);
+    pair
+}
+
+/// As `pair_of_counts`, but with what tripped resources could give if they were
+/// off-line; the pair is accepted only if that is nothing.
+fn drawn_pair_of_counts(random: &mut Random, counts: Counts) -> Pair {
     if random.percent(4) {
         return full_pair(random, counts);
     }
     let scale = random.pick(&[Scale::FULL, Scale::COMMON, Scale::COMMON, Scale::SMALL]);
     let edges = random.pick(&[4, 15, 40]);
-    pair_of_scale(random, counts, Scale { edges, ..scale })
+    drawn_pair_of_scale(random, counts, Scale { edges, ..scale })
 }
 
-/// An accepted pair of the given size and scale.
-pub fn pair_of_scale(random: &mut Random, counts: Counts, scale: Scale) -> Pair {
+/// As `pair_of_scale`, but for tripped resources, as in `drawn_pair_of_counts`.
+fn drawn_pair_of_scale(random: &mut Random, counts: Counts, scale: Scale) -> Pair {
     let mut case = market(random, counts, scale);
     let mut amounts = vec![0; Curve::ALL.len()];
     for _ in 0..counts.resources {
@@ -150,6 +189,30 @@ pub fn pair_of_scale(random: &mut Random, counts: Counts, scale: Scale) -> Pair 
     clear_curves(random, &case, &mut amounts, scale);
     let row_prices = row_prices(random, &case, scale);
     Pair { case, certificate: Certificate { counts, amounts, row_prices } }
+}
+
+/// A tripped resource sells nothing (02, request 2): takes back what it was
+/// given, and lowers what is then no longer provided, which is requirements of
+/// zones and cleared quantities. No other figure hangs on who has tripped.
+fn withdraw_tripped(pair: &mut Pair) {
+    let Pair { case, certificate: Certificate { amounts, .. } } = pair;
+    for (index, resource) in case.resources.iter().enumerate() {
+        if operating_state(resource) == OperatingState::Tripped {
+            for product in Product::ALL {
+                amounts[index_of(index, product)] = 0;
+            }
+        }
+    }
+    for zone in 1..=case.counts.zones {
+        let provided = provided(case, amounts, Some(zone));
+        for (requirement, sum) in case.zones[zone - 1].iter_mut().zip(provided) {
+            *requirement = sum.min(*requirement);
+        }
+    }
+    let provided = provided(case, amounts, None);
+    for (cleared, sum) in amounts.iter_mut().zip(provided) {
+        *cleared = sum.min(*cleared);
+    }
 }
 
 /// An accepted pair whose figures stand at the far ends of their ranges: all
@@ -250,12 +313,12 @@ fn curve(random: &mut Random, scale: Scale) -> [Step; CURVE_STEPS] {
 }
 
 /// A resource of a case whose market-wide figures stand, and five quantities
-/// that keep its own rows.
+/// that keep its own rows; those of a tripped one are an off-line one's.
 fn resource_with_schedule(random: &mut Random, case: &Case, scale: Scale) -> (Resource, [Kw; 5]) {
     let mut resource = loose_resource(random, case.counts, scale);
-    if !is_online(&resource) {
+    if operating_state(&resource) != OperatingState::Online {
         resource.steps = energy_steps(random, 0, scale);
-        let standing = standing(case, &resource);
+        let standing = offline_standing(case, &resource);
         return (resource, offline_amounts(random, &standing, scale));
     }
     let mut before = standing(case, &resource);

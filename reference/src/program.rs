@@ -43,7 +43,7 @@ fn accepted_text(accepted: &Accepted) -> Result<String, Failure> {
     for (index, ((standing, amounts), lmp)) in
         accepted.standings.iter().zip(of_resources).zip(lmps).enumerate()
     {
-        let online = u8::from(standing.online);
+        let online = u8::from(standing.is_online());
         lines.push(format!("{} {} {} {}", index + 1, online, spaced(amounts), lmp));
     }
     for (index, prices) in zone_prices(accepted).into_iter().enumerate() {

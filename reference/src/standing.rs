@@ -1,5 +1,6 @@
-//! What is settled about a resource before any row: whether it is on-line, its
-//! limits for the interval, and the upper bounds of its five quantities.
+//! What is settled about a resource before any row: whether it is on-line,
+//! off-line or tripped, its limits for the interval, and the upper bounds of its
+//! five quantities.
 
 use crate::case::{flag, status, Case, Kind, Limits, Reserve, Resource};
 use crate::units::Kw;
@@ -24,9 +25,18 @@ impl Product {
     ];
 }
 
+/// What the on-line step of the paper tells apart; 'tripped' is of request 2 of
+/// document 02.
+#[derive(Clone, Copy, Debug, PartialEq, Eq)]
+pub enum OperatingState {
+    Online,
+    Offline,
+    Tripped,
+}
+
 #[derive(Clone, Copy, Debug, PartialEq, Eq)]
 pub struct Standing {
-    pub online: bool,
+    pub state: OperatingState,
     /// MAX, MIN, HI and LO of the paper.
     pub maximum: Kw,
     pub minimum: Kw,
@@ -38,6 +48,13 @@ pub struct Standing {
     pub bounds: [Kw; 5],
 }
 
+impl Standing {
+    /// Off-line and tripped alike are not.
+    pub fn is_online(&self) -> bool {
+        self.state == OperatingState::Online
+    }
+}
+
 const INTERVAL_MINUTES: i64 = 5;
 const LEAST_CONVENTIONAL_OUTPUT: Kw = 500;
 const MINUTES_HELD_AFTER_TRIP: i64 = 15;
@@ -47,20 +64,34 @@ pub fn standings(case: &Case) -> Vec<Standing> {
 }
 
 pub fn standing(case: &Case, resource: &Resource) -> Standing {
-    if is_online(resource) {
-        online_standing(case, resource)
-    } else {
-        offline_standing(case, resource)
+    match operating_state(resource) {
+        OperatingState::Online => online_standing(case, resource),
+        OperatingState::Offline => offline_standing(case, resource),
+        OperatingState::Tripped => tripped_standing(case, resource),
     }
 }
 
-pub fn is_online(resource: &Resource) -> bool {
+/// A recent trip is looked at before breaker and output (02, request 2).
+pub fn operating_state(resource: &Resource) -> OperatingState {
+    if has_tripped(resource) {
+        OperatingState::Tripped
+    } else if is_running(resource) {
+        OperatingState::Online
+    } else {
+        OperatingState::Offline
+    }
+}
+
+/// Trips of the other kinds do not count.
+fn has_tripped(resource: &Resource) -> bool {
+    resource.kind == Kind::Conventional && resource.minutes_since_trip <= MINUTES_HELD_AFTER_TRIP
+}
+
+/// What the paper asks of an on-line resource of each kind, trips apart.
+fn is_running(resource: &Resource) -> bool {
     resource.breaker_closed
         && match resource.kind {
-            Kind::Conventional => {
-                resource.output.abs() >= LEAST_CONVENTIONAL_OUTPUT
-                    && resource.minutes_since_trip > MINUTES_HELD_AFTER_TRIP
-            }
+            Kind::Conventional => resource.output.abs() >= LEAST_CONVENTIONAL_OUTPUT,
             Kind::Intermittent => resource.has_status(status::COMMITTED) && resource.output > 0,
             Kind::ExternalAsynchronous => {
                 resource.has_status(status::AVAILABLE)
@@ -94,7 +125,7 @@ fn online_standing(case: &Case, resource: &Resource) -> Standing {
         }
     };
     Standing {
-        online: true,
+        state: OperatingState::Online,
         maximum,
         minimum,
         high,
@@ -134,7 +165,8 @@ fn limits_in_force(resource: &Resource, released: i64) -> Limits {
     }
 }
 
-fn offline_standing(case: &Case, resource: &Resource) -> Standing {
+/// Also what a tripped resource would have if it were off-line.
+pub(crate) fn offline_standing(case: &Case, resource: &Resource) -> Standing {
     let most = resource.economic.maximum;
     let contingency = if resource.has_flag(flag::OFFLINE_SUPPLEMENTAL) {
         most.min(resource.offline_response).min(share(&case.contingency))
@@ -147,7 +179,7 @@ fn offline_standing(case: &Case, resource: &Resource) -> Standing {
         0
     };
     Standing {
-        online: false,
+        state: OperatingState::Offline,
         maximum: most,
         minimum: 0,
         high: most,
@@ -155,4 +187,10 @@ fn offline_standing(case: &Case, resource: &Resource) -> Standing {
         spinning: false,
         bounds: [0, 0, contingency, 0, short_term],
     }
+}
+
+/// The limits of an off-line resource, and nothing that it can sell (02,
+/// request 2).
+fn tripped_standing(case: &Case, resource: &Resource) -> Standing {
+    Standing { state: OperatingState::Tripped, bounds: [0; 5], ..offline_standing(case, resource) }
 }

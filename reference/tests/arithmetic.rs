@@ -4,7 +4,7 @@
 mod common;
 
 use nostwier_reference::accounts::{accounts, cost, listed, listed_amounts, Accounts};
-use nostwier_reference::case::{flag, Curve, Flowgate, Step};
+use nostwier_reference::case::{flag, Curve, Flowgate, Kind, Step};
 use nostwier_reference::certificate::{accept, first_above_bound, first_broken, Accepted};
 use nostwier_reference::generate::{
     full_pair, pair_of_counts, pair_of_scale, random_pair, varied_pair, Pair, Scale,
@@ -13,7 +13,7 @@ use nostwier_reference::layout::{case_fields, Counts};
 use nostwier_reference::prices::lmps;
 use nostwier_reference::random::Random;
 use nostwier_reference::rows::index_of;
-use nostwier_reference::standing::{standings, Product};
+use nostwier_reference::standing::{standings, OperatingState, Product};
 use nostwier_reference::worked;
 use std::collections::{BTreeMap, BTreeSet};
 
@@ -34,8 +34,9 @@ fn assert_charges_make_the_gap(accepted: &Accepted) -> Accounts {
 /// Another schedule near this one, feasible or not.
 fn neighbour(random: &mut Random, accepted: &Accepted, amounts: &[i64]) -> Vec<i64> {
     let mut other = amounts.to_vec();
-    let online: Vec<usize> =
-        (0..accepted.standings.len()).filter(|index| accepted.standings[*index].online).collect();
+    let online: Vec<usize> = (0..accepted.standings.len())
+        .filter(|index| accepted.standings[*index].is_online())
+        .collect();
     if !online.is_empty() && random.percent(60) {
         let (from, to) = (random.pick(&online), random.pick(&online));
         let most = other[index_of(from, Product::Energy)];
@@ -185,15 +186,20 @@ fn the_widest_figures_fit_64_bits() {
 #[test]
 fn generated_cases_show_every_kind_of_standing() {
     let mut random = Random::new(25);
-    let (mut online, mut offline, mut spinning) = (0, 0, 0);
+    let mut states: BTreeMap<&str, usize> = BTreeMap::new();
+    let mut spinning = 0;
     let mut products = [0; 5];
     let mut cleared = 0;
     for _ in 0..100 {
         let counts = Counts { resources: 10, zones: 3, flowgates: 2 };
         let pair = pair_of_counts(&mut random, counts);
         for standing in standings(&pair.case) {
-            online += usize::from(standing.online);
-            offline += usize::from(!standing.online);
+            let state = match standing.state {
+                OperatingState::Online => "on-line",
+                OperatingState::Offline => "off-line",
+                OperatingState::Tripped => "tripped",
+            };
+            *states.entry(state).or_default() += 1;
             spinning += usize::from(standing.spinning);
         }
         for (index, amount) in pair.certificate.amounts.iter().enumerate() {
@@ -204,7 +210,8 @@ fn generated_cases_show_every_kind_of_standing() {
             }
         }
     }
-    assert!(online > 300 && offline > 200 && spinning > 100, "{online} {offline} {spinning}");
+    assert!(states["on-line"] > 300 && states["off-line"] > 200, "{states:?}");
+    assert!(states["tripped"] > 50 && spinning > 100, "{states:?} {spinning}");
     assert!(cleared > 100, "{cleared}");
     assert!(products.iter().all(|count| *count > 50), "{products:?}");
 }
@@ -219,7 +226,7 @@ fn generated_self_schedules_stand_on_every_side_of_floor_high_and_maximum() {
         let pair = varied_pair(&mut random, Counts { resources: 10, zones: 3, flowgates: 2 });
         let accepted = accepted(&pair);
         for (resource, standing) in pair.case.resources.iter().zip(&accepted.standings) {
-            if !standing.online || !resource.has_flag(flag::SELF_SCHEDULED) {
+            if !standing.is_online() || !resource.has_flag(flag::SELF_SCHEDULED) {
                 continue;
             }
             let floor = resource.initial - 5 * resource.ramp_down;
@@ -234,6 +241,35 @@ fn generated_self_schedules_stand_on_every_side_of_floor_high_and_maximum() {
         }
     }
     assert!(met.len() == 5 && met.values().all(|count| *count > 10), "{met:?}");
+}
+
+/// Trips on both sides of 15 minutes, with and without breaker, output and
+/// off-line offers, so that a wrong rule for tripped resources shows when another
+/// implementation is run on such cases (02, request 2).
+#[test]
+fn generated_trips_stand_on_both_sides_of_fifteen_minutes() {
+    let mut random = Random::new(29);
+    let mut met: BTreeMap<(i64, &str), usize> = BTreeMap::new();
+    for _ in 0..400 {
+        let pair = varied_pair(&mut random, Counts { resources: 10, zones: 3, flowgates: 2 });
+        accepted(&pair);
+        for resource in &pair.case.resources {
+            let trip = resource.minutes_since_trip;
+            let offers = flag::OFFLINE_SUPPLEMENTAL | flag::OFFLINE_SHORT_TERM;
+            let runs = match (resource.kind, resource.breaker_closed) {
+                (Kind::Intermittent, _) => "intermittent",
+                (Kind::ExternalAsynchronous, _) => "external",
+                (_, true) if resource.output.abs() >= 500 => "closed, with output",
+                _ if resource.flags & offers != offers => continue,
+                (_, true) => "closed, without output, with offers",
+                (_, false) => "open, with offers",
+            };
+            if [0, 14, 15, 16].contains(&trip) {
+                *met.entry((trip, runs)).or_default() += 1;
+            }
+        }
+    }
+    assert!(met.len() == 4 * 5 && met.values().all(|count| *count > 10), "{met:?}");
 }
 
 #[test]

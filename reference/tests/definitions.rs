@@ -2,16 +2,17 @@
 
 mod common;
 
-use common::{check, refused};
+use common::{check, program_text, refused};
 use nostwier_reference::accounts::accounts;
 use nostwier_reference::case::{flag, status, Case, Flowgate, Kind, Limits, Reserve, Resource};
 use nostwier_reference::certificate::accept;
 use nostwier_reference::generate::Pair;
 use nostwier_reference::layout::{case_fields, certificate_fields, Counts, Field};
-use nostwier_reference::prices;
 use nostwier_reference::rows::rows;
-use nostwier_reference::standing::{is_online, standing, standings, Standing};
-use nostwier_reference::{worked, Refusal};
+use nostwier_reference::standing::{
+    operating_state, standing, standings, OperatingState, Standing,
+};
+use nostwier_reference::{charges, prices, worked, Refusal, Totals};
 
 /// K with its one resource changed.
 fn changed(change: impl Fn(&mut Resource)) -> Case {
@@ -27,39 +28,74 @@ fn of(case: &Case) -> Standing {
 #[test]
 fn what_is_on_line() {
     use Kind::{Conventional, ExternalAsynchronous, Intermittent};
+    use OperatingState::{Offline, Online, Tripped};
     let all = status::COMMITTED | status::AVAILABLE | status::ACTIVE_SCHEDULE;
     let active = status::AVAILABLE | status::ACTIVE_SCHEDULE;
-    for (kind, closed, bits, trip, output, online) in [
+    for (kind, closed, bits, output, state) in [
         // Status says nothing of a conventional resource.
-        (Conventional, true, 0, 255, 500, true),
-        (Conventional, true, 0, 255, -500, true),
-        (Conventional, true, all, 255, 499, false),
-        (Conventional, true, all, 255, -499, false),
-        (Conventional, true, all, 15, 500, false),
-        (Conventional, true, 0, 16, 500, true),
-        (Conventional, false, all, 255, 500, false),
-        // Neither does a trip of the others.
-        (Intermittent, true, status::COMMITTED, 0, 1, true),
-        (Intermittent, true, status::COMMITTED, 255, 0, false),
-        (Intermittent, true, status::COMMITTED, 255, -600, false),
-        (Intermittent, true, active, 255, 600, false),
-        (Intermittent, false, all, 255, 600, false),
-        (ExternalAsynchronous, true, active, 0, 0, true),
-        (ExternalAsynchronous, true, active, 255, -5, true),
-        (ExternalAsynchronous, true, status::AVAILABLE, 255, 600, false),
-        (ExternalAsynchronous, true, status::ACTIVE_SCHEDULE, 255, 600, false),
-        (ExternalAsynchronous, true, status::COMMITTED, 255, 600, false),
-        (ExternalAsynchronous, false, all, 255, 600, false),
+        (Conventional, true, 0, 500, Online),
+        (Conventional, true, 0, -500, Online),
+        (Conventional, true, all, 499, Offline),
+        (Conventional, true, all, -499, Offline),
+        (Conventional, false, all, 500, Offline),
+        (Intermittent, true, status::COMMITTED, 1, Online),
+        (Intermittent, true, status::COMMITTED, 0, Offline),
+        (Intermittent, true, status::COMMITTED, -600, Offline),
+        (Intermittent, true, active, 600, Offline),
+        (Intermittent, false, all, 600, Offline),
+        (ExternalAsynchronous, true, active, 0, Online),
+        (ExternalAsynchronous, true, active, -5, Online),
+        (ExternalAsynchronous, true, status::AVAILABLE, 600, Offline),
+        (ExternalAsynchronous, true, status::ACTIVE_SCHEDULE, 600, Offline),
+        (ExternalAsynchronous, true, status::COMMITTED, 600, Offline),
+        (ExternalAsynchronous, false, all, 600, Offline),
+    ] {
+        for trip in [0, 15, 16, 255] {
+            let case = changed(|resource| {
+                resource.kind = kind;
+                resource.breaker_closed = closed;
+                resource.status = bits;
+                resource.minutes_since_trip = trip;
+                resource.output = output;
+            });
+            // Request 2: a trip says nothing of the other kinds.
+            let expected = if kind == Conventional && trip < 16 { Tripped } else { state };
+            let what = format!("{kind:?} {closed} status {bits} trip {trip} output {output}");
+            assert_eq!(operating_state(&case.resources[0]), expected, "{what}");
+        }
+    }
+}
+
+/// Request 2, on both sides of 15 minutes.
+#[test]
+fn what_is_tripped() {
+    use Kind::{Conventional, ExternalAsynchronous, Intermittent};
+    use OperatingState::{Offline, Online, Tripped};
+    for (kind, trip, closed, output, state) in [
+        (Conventional, 15, true, 50_000, Tripped),
+        (Conventional, 16, true, 50_000, Online),
+        (Conventional, 15, false, 50_000, Tripped),
+        (Conventional, 16, false, 50_000, Offline),
+        (Conventional, 15, true, 0, Tripped),
+        (Conventional, 16, true, 0, Offline),
+        (Conventional, 0, false, 0, Tripped),
+        (Conventional, 0, true, 50_000, Tripped),
+        (Conventional, 14, true, -500, Tripped),
+        (Conventional, 255, true, 50_000, Online),
+        (Intermittent, 0, true, 50_000, Online),
+        (Intermittent, 0, false, 50_000, Offline),
+        (ExternalAsynchronous, 0, true, 50_000, Online),
+        (ExternalAsynchronous, 0, false, 50_000, Offline),
     ] {
         let case = changed(|resource| {
             resource.kind = kind;
             resource.breaker_closed = closed;
-            resource.status = bits;
+            resource.status = 7;
             resource.minutes_since_trip = trip;
             resource.output = output;
         });
-        let what = format!("{kind:?} closed {closed} status {bits} trip {trip} output {output}");
-        assert_eq!(is_online(&case.resources[0]), online, "{what}");
+        let what = format!("{kind:?} trip {trip} closed {closed} output {output}");
+        assert_eq!(operating_state(&case.resources[0]), state, "{what}");
     }
 }
 
@@ -265,6 +301,63 @@ fn off_line_bounds() {
     }
 }
 
+/// A conventional resource with every offer there is.
+fn offering_all(closed: bool, trip: i64) -> Case {
+    with_reserves(|resource| {
+        resource.breaker_closed = closed;
+        resource.minutes_since_trip = trip;
+        resource.flags = 255;
+        resource.status = 15;
+        resource.economic = Limits { minimum: 20_000, maximum: 100_000 };
+        resource.regulating = Limits { minimum: 30_000, maximum: 90_000 };
+        resource.emergency = Limits { minimum: 10_000, maximum: 120_000 };
+        resource.offline_response = 700;
+        resource.offline_short_term = 20_000;
+        resource.self_schedule = 55_000;
+    })
+}
+
+/// Request 2.
+#[test]
+fn a_tripped_resource_has_the_limits_of_an_off_line_one_and_no_bounds() {
+    let offline = of(&offering_all(false, 16));
+    assert_eq!(offline.bounds, [0, 0, 700, 0, 20_000]);
+    for closed in [false, true] {
+        for trip in [0, 14, 15] {
+            let tripped = of(&offering_all(closed, trip));
+            let state = OperatingState::Tripped;
+            assert_eq!(tripped, Standing { state, bounds: [0; 5], ..offline });
+            let limits = (tripped.maximum, tripped.minimum, tripped.high, tripped.low);
+            assert_eq!(limits, (100_000, 0, 100_000, 0));
+            assert!(!tripped.spinning && !tripped.is_online());
+        }
+    }
+    assert_eq!(of(&offering_all(true, 16)).bounds, [100_000, 700, 800, 900, 0]);
+}
+
+/// Request 2: places 5 to 9 are e, g, c, s and o of K's resource.
+#[test]
+fn a_tripped_resource_sells_nothing() {
+    for closed in [false, true] {
+        let mut pair = worked::pair();
+        pair.case = offering_all(closed, 15);
+        pair.case.demand = 0;
+        pair.certificate.amounts[4] = 0;
+        assert_eq!(program_text(&pair).lines().nth(3), Some("1 0 0 0 0 0 0 3000000"));
+        for place in 5..=9 {
+            let mut given = pair.clone();
+            given.certificate.amounts[place - 1] = 1;
+            assert_eq!(check(&given), refused(Refusal::Quantity { place }), "closed {closed}");
+        }
+    }
+    // A minute later, and off-line, it gives both reserves.
+    let mut pair = worked::pair();
+    pair.case = offering_all(false, 16);
+    pair.case.demand = 0;
+    pair.certificate.amounts[4..].copy_from_slice(&[0, 0, 700, 0, 20_000]);
+    assert_eq!(program_text(&pair).lines().nth(3), Some("1 0 0 0 700 0 20000 3000000"));
+}
+
 /// Two resources in two zones: the first on-line and spinning, the second
 /// off-line though its spinning flag is set.
 fn two_resources() -> Pair {
@@ -369,6 +462,27 @@ fn steps_of_an_off_line_resource_take_no_part_in_the_bound() {
     pair.case.resources[1].economic.minimum = 0;
     pair.case.resources[1].initial = 0;
     assert_eq!(check(&pair).map(|totals| totals.gap), Ok(40_000_000_000));
+}
+
+/// Request 2: row 1 and the market rows would pay for all that it offers.
+#[test]
+fn offers_of_a_tripped_resource_take_no_part_in_the_bound() {
+    let mut pair = worked::pair();
+    pair.case = offering_all(true, 15);
+    pair.case.demand = 0;
+    pair.certificate.amounts[4] = 0;
+    pair.certificate.row_prices[0] = 3_500_000;
+    pair.certificate.row_prices[1] = 10_000;
+    pair.certificate.row_prices[4] = 20_000;
+    let nothing = Totals { cost: 0, bound: 0, gap: 0 };
+    assert_eq!(check(&pair), Ok(nothing));
+    let mut out = vec![-1; 44];
+    assert_eq!(charges(&pair.case_file(), &pair.certificate_file(), &mut out), Ok(44));
+    assert_eq!(out, [0; 44]);
+    // Off-line, its reserves would be wanted: c 700 and o 20,000 kW.
+    pair.case = Case { demand: 0, ..offering_all(false, 16) };
+    let gap = check(&pair).map(|totals| totals.gap);
+    assert_eq!(gap, Ok(10_000 * 700 + 20_000 * 20_000));
 }
 
 #[test]

@@ -5,7 +5,7 @@ mod common;
 use common::{check, program_text, refused};
 use nostwier_reference::case::{flag, status, Flowgate, Kind};
 use nostwier_reference::generate::Pair;
-use nostwier_reference::standing::{is_online, ramp};
+use nostwier_reference::standing::{operating_state, ramp, OperatingState};
 use nostwier_reference::{charges, prices, worked, Failure, Refusal, Totals};
 
 /// Where resource 1's energy stands among the amounts of K.
@@ -113,16 +113,20 @@ fn h_outputs_of_500_either_way_are_on_line() {
     for (output, online) in [(500, true), (-500, true), (499, false), (-499, false)] {
         let mut pair = worked::pair();
         pair.case.resources[0].output = output;
-        assert_eq!(is_online(&pair.case.resources[0]), online, "output {output}");
+        let state = if online { OperatingState::Online } else { OperatingState::Offline };
+        assert_eq!(operating_state(&pair.case.resources[0]), state, "output {output}");
         assert_eq!(check(&pair), as_in_k(online), "output {output}");
     }
 }
 
+/// By request 2, (i) reads tripped at 15.
 #[test]
 fn i_fifteen_minutes_after_a_trip_are_too_few() {
     for (minutes, online) in [(0, false), (15, false), (16, true), (254, true), (255, true)] {
         let mut pair = worked::pair();
         pair.case.resources[0].minutes_since_trip = minutes;
+        let state = if online { OperatingState::Online } else { OperatingState::Tripped };
+        assert_eq!(operating_state(&pair.case.resources[0]), state, "minutes {minutes}");
         assert_eq!(check(&pair), as_in_k(online), "minutes {minutes}");
     }
 }

@@ -93,7 +93,7 @@ fn whole_schedules(
 /// on-line, and a demand beyond what the others can give within the interval.
 fn why_none(case: &Case) -> String {
     let standings = standings(case);
-    let online: Vec<_> = standings.iter().filter(|standing| standing.online).collect();
+    let online: Vec<_> = standings.iter().filter(|standing| standing.is_online()).collect();
     let most: i64 = online
         .iter()
         .map(|standing| standing.maximum.min(standing.high).min(standing.bounds[0]).max(0))
@@ -101,7 +101,7 @@ fn why_none(case: &Case) -> String {
     let least: i64 = online.iter().map(|standing| standing.minimum.max(standing.low)).sum();
     let off: Vec<String> = (1..)
         .zip(&standings)
-        .filter(|(_, standing)| !standing.online)
+        .filter(|(_, standing)| !standing.is_online())
         .map(|(number, _)| number.to_string())
         .collect();
     let off = if off.is_empty() { "none".to_string() } else { off.join(", ") };

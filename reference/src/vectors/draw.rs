@@ -4,7 +4,8 @@
 use super::harm::{harm_file, harm_numbers, Shape};
 use super::{Call, Operation};
 use crate::damage::{
-    broken_rows, minima_above_maxima, quantities_above_their_bounds, steps_against_their_rule,
+    broken_rows, minima_above_maxima, quantities_above_their_bounds, reserve_of_tripped,
+    steps_against_their_rule,
 };
 use crate::generate::{varied_pair, Pair};
 use crate::layout::{self, Counts, MOST_FLOWGATES, MOST_RESOURCES, MOST_ZONES};
@@ -12,8 +13,13 @@ use crate::random::Random;
 
 /// The damage that needs the meaning of a case. It leaves the size of both
 /// files as it was; all other damage is done to the bytes, when a call is drawn.
-const KINDS: [fn(&Pair) -> Vec<crate::damage::Damaged>; 4] =
-    [quantities_above_their_bounds, steps_against_their_rule, minima_above_maxima, broken_rows];
+const KINDS: [fn(&Pair) -> Vec<crate::damage::Damaged>; 5] = [
+    quantities_above_their_bounds,
+    steps_against_their_rule,
+    minima_above_maxima,
+    broken_rows,
+    reserve_of_tripped,
+];
 
 /// How many damages of a kind are kept of a pair.
 const KEPT: usize = 16;
@@ -132,7 +138,7 @@ fn base(random: &mut Random, group: &Group, index: usize) -> Base {
         while list.len() > KEPT {
             list.swap_remove(random.index(list.len()));
         }
-        // Some rows cannot be broken in some pairs.
+        // Some rows cannot be broken in some pairs, and some have no trips.
         if !list.is_empty() {
             damaged.push(
                 list.into_iter()
