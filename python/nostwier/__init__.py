@@ -11,7 +11,7 @@ grains, 1,200,000,000 of which are one dollar of a five-minute interval.
     print(result.gap, nostwier.dollars(result.gap))
     print(nostwier.explain(case, certificate))         # where the gap comes from
     print(nostwier.cite(case, certificate))            # the sentence to publish
-    print(case.state(1).on_line, case.state(1).hi)     # of resource 1: on-line or not, limits and bounds, with the reasons
+    print(case.state(1).availability, case.state(1).hi)     # of resource 1: on-line or not, limits and bounds, with the reasons
     case.save("small.case")
 
 A refusal is the exception Refused, with the number, the place, what it is about, what it means and what to do. A dictionary or
@@ -38,6 +38,7 @@ from .library import Counts, LibraryMissing
 from .model import Figure, Part, Quantity, Row, State, Summary, parts, quantities, rows, summary
 from .records import (
     NO_TRIP,
+    Availability,
     Breaker,
     ByCurve,
     Case,
@@ -64,8 +65,8 @@ from .units import GRAINS_PER_DOLLAR, dollars
 from .explain import Explained, cite, explain, explained
 
 __all__ = [
-    "ADVICE", "Breaker", "ByCurve", "Case", "Certificate", "Charge", "Counts", "Curves", "Dispatch", "Explained", "Field",
-    "Figure", "FiledFlowgate", "Flags", "Flowgate", "GRAINS_PER_DOLLAR", "Kind", "LibraryMissing", "Limits", "MEANING",
+    "ADVICE", "Availability", "Breaker", "ByCurve", "Case", "Certificate", "Charge", "Counts", "Curves", "Dispatch", "Explained",
+    "Field", "Figure", "FiledFlowgate", "Flags", "Flowgate", "GRAINS_PER_DOLLAR", "Kind", "LibraryMissing", "Limits", "MEANING",
     "Misfiled", "NO_TRIP", "Names", "Part", "Prices", "Quantity", "Refused", "Reserve", "Reserves", "Resource", "ResourceRows",
     "Result", "Row", "RowPrices", "State", "Status", "Step", "Summary", "Zone", "ZonePrices", "__version__", "charge_labels",
     "charges", "check_case", "check_certificate", "cite", "dollars", "explain", "explained", "flowgate", "listed_charges",

@@ -1,4 +1,4 @@
-"""What the numbers of a resource mean: kind, breaker, status bits and flags."""
+"""What the numbers of a resource mean: kind, breaker, status bits and flags; and what they make of it."""
 
 import enum
 
@@ -38,6 +38,14 @@ class Flags(enum.IntFlag):
     self_scheduled = 32
     emergency_minimum_released = 64
     on_line_short_term = 128
+
+
+class Availability(enum.Enum):
+    """What a resource is; the program prints 1 for on-line, and 0 for the other two."""
+
+    on_line = "on-line"
+    off_line = "off-line"
+    tripped = "tripped"
 
 
 NO_TRIP = 255

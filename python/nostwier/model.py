@@ -1,4 +1,4 @@
-"""What a case says of its resources, and a certificate of its rows: on-line or not, limits, upper bounds, both sides of each
+"""What a case says of its resources, and a certificate of its rows: on-line, off-line or tripped, limits, upper bounds, both sides of each
 row, price and amount of each charge; all with the reason in words.
 
 It serves messages alone. The library judges: no verdict and no number of an answer is made here.
@@ -6,14 +6,14 @@ It serves messages alone. The library judges: no verdict and no number of an ans
 
 from typing import TYPE_CHECKING, Iterator, List, NamedTuple, Optional, Tuple
 
-from .enums import Breaker, Flags, Kind, Status
+from .enums import Availability, Breaker, Flags, Kind, Status
 from .labels import CURVE_STEPS, CURVES, ENERGY_STEPS, Names
 
 if TYPE_CHECKING:
     from .records import Case, Certificate, Resource
 
 ON_LINE_OUTPUT = 500  # kW, of a conventional resource
-TRIP_MINUTES = 15  # a conventional resource is on-line only if it tripped longer ago
+TRIP_MINUTES = 15  # a conventional resource is tripped unless it tripped longer ago
 INTERVAL_MINUTES = 5
 
 
@@ -27,14 +27,14 @@ class Figure(NamedTuple):
 class State(NamedTuple):
     """What follows from a case for one of its resources.
 
-    on_line              whether it is on-line, and in reasons why not
+    availability         whether it is on-line, off-line or tripped, and in reasons why it is not on-line
     maximum, minimum     MAX and MIN of the rows e+g+c <= MAX, e+s <= MAX and e-g >= MIN
     hi, lo               HI and LO of the rows e <= HI and e >= LO
     e, g, c, s, o        the upper bounds of its five quantities
     spinning             whether its c counts as spinning reserve
     """
 
-    on_line: bool
+    availability: Availability
     reasons: List[str]
     maximum: Figure
     minimum: Figure
@@ -47,9 +47,21 @@ class State(NamedTuple):
     o: Figure
     spinning: bool
 
+    @property
+    def on_line(self) -> bool:
+        """Whether it is on-line, and neither off-line nor tripped."""
+        return self.availability is Availability.on_line
 
-def off_line_reasons(resource: "Resource") -> List[str]:
-    """Why a resource is not on-line; none if it is."""
+
+def availability(resource: "Resource") -> Availability:
+    """What a resource is. A trip of 15 minutes ago or less decides before breaker and output, of a conventional one alone."""
+    if resource.kind == Kind.conventional and resource.minutes_since_trip <= TRIP_MINUTES:
+        return Availability.tripped
+    return Availability.off_line if _missing(resource) else Availability.on_line
+
+
+def _missing(resource):
+    """What a resource lacks to be on-line, but for a trip."""
     reasons = []
     output = resource.estimated_output
     if resource.kind == Kind.intermittent:
@@ -66,8 +78,6 @@ def off_line_reasons(resource: "Resource") -> List[str]:
         if -ON_LINE_OUTPUT < output < ON_LINE_OUTPUT:
             reasons.append(f"its estimated output is {output:,} kW, and {ON_LINE_OUTPUT} kW or more (or -{ON_LINE_OUTPUT} kW or "
                            "less) is needed")
-        if resource.minutes_since_trip <= TRIP_MINUTES:
-            reasons.append(f"it tripped {resource.minutes_since_trip} minutes ago, and more than {TRIP_MINUTES} are needed")
     if resource.breaker != Breaker.closed:
         reasons.append("its breaker is open")
     return reasons
@@ -78,11 +88,22 @@ def state(case: "Case", number: int) -> State:
     if not 1 <= number <= len(case.resources):
         raise IndexError(f"there is no resource {number}: they are numbered from 1 to {len(case.resources)}")
     resource = case.resources[number - 1]
-    reasons = off_line_reasons(resource)
-    return _off_line_state(case, resource, reasons) if reasons else _on_line_state(case, resource)
+    if resource.availability is Availability.tripped:
+        return _tripped_state(resource)
+    if resource.availability is Availability.off_line:
+        return _off_line_state(case, resource)
+    return _on_line_state(case, resource)
 
 
-def _off_line_state(case, resource, reasons):
+def _tripped_state(resource):
+    """Every upper bound is 0; the limits are an off-line resource's."""
+    trip = f"it is tripped: it tripped {resource.minutes_since_trip} minutes ago, and more than {TRIP_MINUTES} are needed"
+    none = Figure(0, trip)
+    return State(Availability.tripped, [trip, *_missing(resource)], *_limits_without_output(resource, "tripped"), *[none] * 5, False)
+
+
+def _off_line_state(case, resource):
+    reasons = _missing(resource)
     off = "it is off-line, because " + ", and ".join(reasons)
     economic = _economic(resource)
     if resource.flags & Flags.off_line_supplemental:
@@ -94,8 +115,14 @@ def _off_line_state(case, resource, reasons):
         o = _least([economic, Figure(resource.off_line_short_term_limit, "the off-line short-term limit")], off)
     else:
         o = Figure(0, f"{off}, and its flag 'off_line_short_term' is clear")
-    none, top, floor = Figure(0, off), Figure(economic.kw, "the economic maximum, as it is off-line"), Figure(0, "0, as it is off-line")
-    return State(False, reasons, top, floor, top, floor, none, none, c, none, o, False)
+    none = Figure(0, off)
+    return State(Availability.off_line, reasons, *_limits_without_output(resource, "off-line"), none, none, c, none, o, False)
+
+
+def _limits_without_output(resource, what):
+    """MAX, MIN, HI and LO of a resource that is off-line or tripped."""
+    top, floor = Figure(resource.economic.maximum, f"the economic maximum, as it is {what}"), Figure(0, f"0, as it is {what}")
+    return top, floor, top, floor
 
 
 def _on_line_state(case, resource):
@@ -108,7 +135,7 @@ def _on_line_state(case, resource):
         return _least([_ramp(resource, figures, name), _share(figures, name), Figure(most.kw, f"MAX, {most.why}")], "")
 
     return State(
-        True, [], most, least, *_ramped(resource, most),
+        Availability.on_line, [], most, least, *_ramped(resource, most),
         Figure(sum(step.width for step in resource.energy_steps), "the sum of the widths of its energy steps"),
         reserve(reserves.regulating, "regulating", flags & Flags.regulating, "its flag 'regulating' is clear"),
         reserve(reserves.contingency, "contingency", flags & Flags.spinning or resource.status & Status.on_line_supplemental,
@@ -327,7 +354,7 @@ class Summary(NamedTuple):
     most: int  # what the resources that are on-line can give at most, kW
     least: int  # and at least
     offers: Optional[Tuple[int, int]]  # least and most of the energy offers' prices
-    off_line: List[Tuple[str, str]]  # the resource in words, and why
+    off_line: List[Tuple[str, str]]  # what is not on-line: the resource in words, and why
     warnings: List[str]
 
 

@@ -12,7 +12,7 @@ from dataclasses import MISSING, dataclass, field, fields
 from typing import Any, Callable, Dict, Iterator, List, NamedTuple, Type, TypeVar, Union
 
 from . import calls, messages, model
-from .enums import NO_TRIP, Breaker, Flags, Kind, Status
+from .enums import NO_TRIP, Availability, Breaker, Flags, Kind, Status
 from .labels import CURVE_KEYS, CURVE_STEPS, CURVES, ENERGY_STEPS, RESOURCE_ROWS, Names
 from .library import LEAST, MOST, Counts
 from .refusals import Refused
@@ -264,9 +264,14 @@ class Resource:
     off_line_short_term_price: int = _field(WHOLE, 0)
 
     @property
+    def availability(self) -> Availability:
+        """Whether it is on-line, off-line or tripped; Case.state says why, and its limits."""
+        return model.availability(self)
+
+    @property
     def on_line(self) -> bool:
-        """Whether it is on-line; Case.state says why not, and its limits."""
-        return not model.off_line_reasons(self)
+        """Whether it is on-line, and neither off-line nor tripped."""
+        return self.availability is Availability.on_line
 
 
 @dataclass

@@ -221,8 +221,10 @@ def refusals():
         ("worked-g", 13, 5, "resource 1: energy e is 60,000 kW, and at most 0 kW is possible: it is off-line, because its estimated output "
                             "is 499 kW, and 500 kW or more (or -500 kW or less) is needed",
          "Is the unit right? Power is in kW: is the estimated output in MW?"),
-        ("worked-i-15", 13, 5, "resource 1: energy e is 60,000 kW, and at most 0 kW is possible: it is off-line, because it tripped 15 "
-                               "minutes ago, and more than 15 are needed", ""),
+        ("worked-i-15", 13, 5, "resource 1: energy e is 60,000 kW, and at most 0 kW is possible: it is tripped: it tripped 15 minutes "
+                               "ago, and more than 15 are needed", ""),
+        ("worked-tripped-short-term", 13, 9, "resource 1: off-line short-term o is 10,000 kW, and at most 0 kW is possible: it is tripped: it "
+                                             "tripped 15 minutes ago, and more than 15 are needed", ""),
         ("worked-k-42858", 13, 7, "resource 1: contingency c is 42,858 kW, and at most 42,857 kW is possible: this is the ramp rate 3,000 kW "
                                   "a minute times the minutes 10 of contingency reserve, divided by its multiplier 700 / 1,000", ""),
         ("worked-self-schedule-below-hi", 14, 14, "resource 1: e >= LO: e is 64,999 kW, and it must be at least LO, the HI that the "
@@ -624,8 +626,8 @@ def commands():
     result, prices = nostwier.check_certificate(*pairs["small"]), nostwier.prices(*pairs["small"])
     told = json.loads(run("check", case, certificate, "--json")[1])
     same("check as JSON", ([told[key] for key in ("cost", "bound", "gap")], [resource["lmp"] for resource in told["resources"]],
-                           [list(zone.values()) for zone in told["zones"]], told["resources"][7]["on_line"]),
-         (list(result), prices.lmps, [list(zone) for zone in prices.zones], False))
+                           [list(zone.values()) for zone in told["zones"]], [told["resources"][7][key] for key in ("on_line", "availability")]),
+         (list(result), prices.lmps, [list(zone) for zone in prices.zones], [False, "off-line"]))
     same("check as CSV", run("check", case, certificate, "--csv")[1].splitlines(), [
         "item,grains,dollars,dollars_an_hour", "cost,-22614356928000,-18845.297440000,-226143.569280000",
         "bound,-22614359745000,-18845.299787500,-226143.597450000", "gap,2817000,0.002347500,0.028170000"])
@@ -812,9 +814,10 @@ def models():
         printed = reference("check", case + certificate).decode().splitlines()[3:3 + len(record.resources)]
         states = record.states()
         same(f"on-line of {name}", [int(state.on_line) for state in states], [int(line.split()[1]) for line in printed])
-        same(f"on-line of {name} by resource", [state.on_line for state in states], [resource.on_line for resource in record.resources])
+        same(f"on-line of {name} by resource", [(state.on_line, state.availability) for state in states],
+             [(resource.on_line, resource.availability) for resource in record.resources])
         check(f"reasons of {name}", all(bool(state.reasons) != state.on_line for state in states))
-        kinds |= {(int(resource.kind), resource.on_line) for resource in record.resources}
+        kinds |= {(int(resource.kind), resource.availability.value) for resource in record.resources}
         whys |= {re.sub(r"\d[\d,]*", "#", getattr(state, part).why) for state in states for part in ("lo", "e", "g", "c", "s", "o")}
 
         # Each bound: a quantity of so much is not refused for it, one kW more is, there.
@@ -834,10 +837,10 @@ def models():
         check(f"rows of {name}", all(row.met for row in nostwier.rows(record, made)))
         for trial in (made, *(_priced(made, price) for price in (1, 3_000_000))):
             same(f"parts of {name}", [part.grains for part in nostwier.parts(record, trial)], nostwier.charges(case, trial))
-    same("kinds that were met", kinds, {(kind, on_line) for kind in (1, 2, 3) for on_line in (True, False)})
+    same("kinds that were met", kinds, {(kind, what) for kind in (1, 2, 3) for what in ("on-line", "off-line")} | {(1, "tripped")})
     for why in ("its flag 'regulating' is clear", "this is the share", "this is the ramp rate", "this is MAX", "off-line response limit",
                 "off-line short-term limit", "'off_line_supplemental' is clear", "the self-schedule, as", "the HI that the self-schedule",
-                "the MAX that the self-schedule"):
+                "the MAX that the self-schedule", "it is tripped"):
         check(f"a bound for the reason {why}", any(why in text for text in whys))
 
     # The first quantity or row that is broken, by the model, is what the library refuses.
@@ -860,6 +863,20 @@ def models():
         small = nostwier.Case.load(EXAMPLE / "small.json")
         small.resources[5].self_schedule, small.resources[5].economic.maximum = scheduled, most
         same(f"LO with a self-schedule of {scheduled} and MAX {most}", small.state(6).lo, low)
+    # A trip of 15 minutes ago or less decides before breaker and output, of a conventional resource alone.
+    kinds = {int(resource.kind): number for number, resource in reversed(list(enumerate(small.resources, 1))) if resource.on_line}
+    for number, minutes, what in ((kinds[1], 15, "tripped"), (kinds[1], 16, "on-line"), (8, 0, "tripped"), (8, 16, "off-line"),
+                                  (kinds[2], 15, "on-line"), (kinds[3], 0, "on-line")):
+        small.resources[number - 1].minutes_since_trip = minutes
+        state = small.state(number)
+        same(f"resource {number}, {minutes} minutes after a trip", state.availability.value, what)
+        if what == "tripped":
+            economic = small.resources[number - 1].economic.maximum
+            same(f"limits and bounds of resource {number}, tripped", [figure.kw for figure in state[2:11]], [economic, 0, economic] + [0] * 6)
+    small.resources[7].minutes_since_trip = 0
+    same("why resource 8 is not on-line", small.state(8).reasons, [
+        "it is tripped: it tripped 0 minutes ago, and more than 15 are needed",
+        "its estimated output is 0 kW, and 500 kW or more (or -500 kW or less) is needed", "its breaker is open"])
     for large, small, asked in ((100, 1, True), (1000, 1, True), (49, 1, False), (300, 1, False), (2001, 1, False), (100, 0, False)):
         same(f"{large} for {small}", bool(model.asks(large, small, "kW")), asked)
     for number in (-1, 0, 11):
