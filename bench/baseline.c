@@ -205,12 +205,18 @@ INLINE int64_t reserve_bound(reserve of, int64_t rate, int64_t most)
     return ramp >= other * of.over ? other : (int64_t)((uint64_t)ramp / (uint64_t)of.over);
 }
 
+/* It sells nothing, whatever its breaker, its output and its flags say. */
+INLINE int tripped(const uint8_t *at)
+{
+    return (at[0] == 1) & (at[4] <= 15);
+}
+
 INLINE int on_line(const uint8_t *at)
 {
     uint32_t output = u32(at + 6);
     switch (at[0]) {
     case 1:
-        return at[2] & (output + 499 > 998) & (at[4] > 15);
+        return at[2] & (output + 499 > 998) & !tripped(at);
     case 2:
         return at[2] & at[3] & ((int32_t)output > 0);
     default:
@@ -243,6 +249,8 @@ INLINE void take_standing(standing *s, const uint8_t *at, const reserve *g, cons
         s->bound[4] = 0;
     } else {
         int64_t most = u32(at + 14);
+        if (tripped(at))
+            flags = 0;
         s->max = s->high = most;
         s->min = s->low = 0;
         s->bound[0] = s->bound[1] = s->bound[3] = 0;

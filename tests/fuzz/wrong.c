@@ -21,6 +21,10 @@ static const uint8_t *misread(const uint8_t *c, size_t cn)
     for (uint8_t *at = seen + HEAD + 16 * c[6], *end = at + RESOURCE * c[5]; at < end; at += RESOURCE) {
         if (fault("certificate:trip-of-15-minutes-is-over") && at[4] == 15)
             at[4] = 16;
+        if (fault("certificate:tripped-is-off-line") && at[0] == 1 && at[4] <= 15)
+            at[2] = 0, at[4] = 16;
+        if (fault("certificate:kind-2-trips") && at[0] == 2 && at[4] <= 15)
+            at[0] = 1;
         if (fault("certificate:regulating-limits-before-emergency-ones") && (at[5] & 1) != 0)
             at[5] &= (uint8_t)~16;
         if (fault("certificate:self-schedule-yields-to-the-economic-maximum") && above_economic_maximum(at + 58, at + 14))
