@@ -23,7 +23,7 @@
 
 /* The version. Within one first number, the interface that is there stays as it is; the second number rises where a rule of the
  * market changes, and with it an answer. */
-#define NOSTWIER_VERSION "1.1.0"
+#define NOSTWIER_VERSION "1.2.0"
 
 /* ---- Units. Power is in kW; prices of offers, curves and flowgates in cents per MWh, all other prices in thousandths of a
  * cent per MWh. Cost, bound, gap and charges are in grains, a thousandth of a cent per MWh times one kW: so many grains are
@@ -86,7 +86,8 @@ enum nostwier_refusal {
 };
 
 /* Places of 13: 1 to 4 are the cleared quantities (operating, regulating-plus-spinning, regulating, short-term); then five a
- * resource (energy, regulating, contingency, on-line short-term, off-line short-term).
+ * resource (energy, regulating, contingency, on-line short-term, off-line short-term). All five bounds of a resource of kind 1
+ * whose trip was 15 minutes ago or less are 0.
  *
  * Rows of 14, from 1: energy equals demand; the four market-wide reserve rows in the order of the cleared quantities; the
  * same four for each zone; each flowgate; five a resource (e+g+c <= MAX, e+s <= MAX, e-g >= MIN, e <= HI, e >= LO). */

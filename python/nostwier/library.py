@@ -6,7 +6,7 @@ import os
 from pathlib import Path
 from typing import NamedTuple
 
-VERSION = "1.1.0"  # NOSTWIER_VERSION of nostwier.h
+VERSION = "1.2.0"  # NOSTWIER_VERSION of nostwier.h
 VARIABLE = "NOSTWIER_LIBRARY"
 SONAME = "libnostwier.so.1"
 BUILD_TREE = Path(__file__).resolve().parents[2] / "target" / "lib" / SONAME
