@@ -1,6 +1,7 @@
-// Which resources are on-line, off-line or tripped, their limits, and the upper bounds of what they provide (01, 'Before the rows'; 02, requests 2
-// and 6), on records by value. Each function equates its result with the definition for all figures that the record stands for; where
-// numbers are added or multiplied it asks that the record is in range (`case_records`, specs/Ranged.antt).
+// Which resources are on-line, off-line or tripped, their limits, and the upper bounds of what they provide (01, 'Before the
+// rows'; 02, requests 2 and 6), on records by value. Each function equates its result with the definition for all figures that
+// the record stands for; where numbers are added or multiplied it asks that the record is in range (`case_records`,
+// specs/Ranged.antt).
 ghost use mathlib.Core.Path.{_≡_};
 ghost use mathlib.Core.Bool.{cond, _||_};
 ghost use Prim.Native.Nat.{ℕ, _+_, _*_, _-_, _/_, _<_, _≤_, min, max};
@@ -146,7 +147,8 @@ fn external(t: State) -> bool
     (t.kind == 3) & status.available() & (t.breaker == 1) & status.active_schedule()
 }
 
-// Of its state alone. Nothing else decides which of the three a resource is.
+// Of its state alone. Nothing else decides which of the three a resource is. Kinds 2 and 3 never trip, so that on-line may be
+// asked first.
 pub fn state_availability(t: State) -> Availability
     ensures { λ a. ⌜ ((s : Figures) → t ≡ stateOf s → a ≡ availabilityOf s) ⌝ }
 {

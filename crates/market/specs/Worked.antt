@@ -65,7 +65,7 @@ textOfK =
     ∷ 49 ∷ 32 ∷ 49 ∷ 32 ∷ 54 ∷ 48 ∷ 48 ∷ 48 ∷ 48 ∷ 32 ∷ 48 ∷ 32 ∷ 48 ∷ 32 ∷ 48 ∷ 32 ∷ 48 ∷ 32 ∷ 51 ∷ 48 ∷ 48 ∷ 48 ∷ 48 ∷ 48 ∷ 48 ∷ 10
     ∷ 122 ∷ 111 ∷ 110 ∷ 101 ∷ 32 ∷ 49 ∷ 32 ∷ 48 ∷ 32 ∷ 48 ∷ 32 ∷ 48 ∷ 32 ∷ 48 ∷ 10 ∷ []
 
--- (a) to (l), in order
+-- (a) to (l), in order; (i) by what is printed, and in `WorkedTrips` by name: tripped at 15, on-line at 16
 abbrev pub intervals : List Example
 intervals =
     record { given = asNumbers (printed (K ++ Q)); says = asNumbers textOfK }
