@@ -205,7 +205,7 @@ INLINE int64_t reserve_bound(reserve of, int64_t rate, int64_t most)
     return ramp >= other * of.over ? other : (int64_t)((uint64_t)ramp / (uint64_t)of.over);
 }
 
-/* It sells nothing, whatever its breaker, its output and its flags say. */
+/* Kind 1, its trip 15 minutes ago or less: it sells nothing, whatever its breaker, its output and its flags say. */
 INLINE int tripped(const uint8_t *at)
 {
     return (at[0] == 1) & (at[4] <= 15);

@@ -132,7 +132,8 @@ def _check(options):
     rows = list(zip(Case.from_bytes(case).states(), Certificate.from_bytes(certificate).resources, prices.lmps))
     if options.json:
         return _json({**result._asdict(),
-                      "resources": [{"on_line": state.on_line, "availability": state.availability.value, "e": d.e, "g": d.g, "c": d.c, "s": d.s, "o": d.o, "lmp": lmp}
+                      "resources": [{"on_line": state.on_line, "availability": state.availability.value,
+                                     "e": d.e, "g": d.g, "c": d.c, "s": d.s, "o": d.o, "lmp": lmp}
                                     for state, d, lmp in rows],
                       "zones": [zone._asdict() for zone in prices.zones]})
     lines = [f"{name} {grains}" for name, grains in zip(result._fields, result)]

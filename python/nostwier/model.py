@@ -1,5 +1,5 @@
-"""What a case says of its resources, and a certificate of its rows: on-line, off-line or tripped, limits, upper bounds, both sides of each
-row, price and amount of each charge; all with the reason in words.
+"""What a case says of its resources, and a certificate of its rows: on-line, off-line or tripped, limits, upper bounds, both
+sides of each row, price and amount of each charge; all with the reason in words.
 
 It serves messages alone. The library judges: no verdict and no number of an answer is made here.
 """

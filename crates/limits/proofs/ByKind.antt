@@ -2,7 +2,6 @@
 use mathlib.Core.Path.{_≡_, refl, sym, ap, _∙_}
 use mathlib.Core.Bool.{Bool, true, false, not, cond, true≢false, _&&_, _||_}
 use Prim.Native.Nat.{ℕ}
-use native.Mathlib.Omega.{arith}
 use lib.Dec.{T, eqb, eqb→eq}
 use Rattle.market.specs.Case.{Resource as Figures}
 use Rattle.market.specs.Availability.{hasTripped, running, availabilityOf, isOnLine, onLine}

@@ -1,4 +1,4 @@
--- The parts of market's `availability` (01, 'Before the rows'; 02, request 2), each of a record's state: tripped, and what 01 asks of
+-- The parts of market's `availabilityOf` (01, 'Before the rows'; 02, request 2), each of a record's state: tripped, and what 01 asks of
 -- each kind.
 use mathlib.Core.Bool.{Bool, _&&_, _||_}
 use lib.Dec.{leb, eqb}

@@ -8,7 +8,7 @@ use lib.Signed.{_<ℤ_}
 use Rattle.market.specs.Case.{Resource}
 use Rattle.market.specs.Availability.{availabilityOf, onLine}
 use Rattle.market.specs.UpperBounds.{upperBound}
-use Rattle.market.specs.AvailabilityInWords.{BitSet, OnLine, OffLine, Tripped, Closed, AtLeast500, OnLineInWords, TrippedInWords, OffLineInWords, OneOfTwo, AvailabilityInWords}
+use Rattle.market.specs.AvailabilityInWords.{BitSet, Closed, AtLeast500, OnLineInWords, TrippedInWords, OffLineInWords, OneOfTwo, AvailabilityInWords}
 use Rattle.market.proofs.AvailabilityTests.{Running, tripped-asks, on-line-asks, off-line-asks, above-15}
 use Rattle.market.proofs.BoundsInWords.{bounds-in-words, spin-in-words, sells-nothing}
 use Rattle.market.proofs.LimitsInWords.{limits-in-words}

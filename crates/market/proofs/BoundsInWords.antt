@@ -1,6 +1,6 @@
 -- Upper bounds and spin flag by flag, on-line, off-line and tripped.
 use mathlib.Core.Bool.{Bool, true, false, _||_}
-use mathlib.Core.Logic.{_⊎_, inl, inr}
+use mathlib.Core.Logic.{inl, inr}
 use mathlib.Core.Path.{_≡_, refl}
 use Prim.Native.Nat.{ℕ}
 use Rattle.market.specs.Case.{Case, Resource, Reserve, contingencyReserve}

@@ -1,6 +1,6 @@
 -- MAX, MIN, HI and LO flag by flag; what a self-schedule can do to LO.
 use mathlib.Core.Bool.{Bool, true, false, cond}
-use mathlib.Core.Logic.{_⊎_, inl, inr}
+use mathlib.Core.Logic.{inl, inr}
 use mathlib.Core.Path.{_≡_, refl}
 use Prim.Native.Nat.{ℕ, _+_, _*_, _≤_, min, max}
 use native.Mathlib.Omega.{arith}

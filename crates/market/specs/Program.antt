@@ -1,5 +1,5 @@
 -- The program: how it parts its input, and the text that it prints (01, 'How each operation refuses', 'Worked interval').
-use mathlib.Core.Bool.{true, false, cond}
+use mathlib.Core.Bool.{true, false}
 use mathlib.Core.List.{List, [], _∷_, _++_, map}
 use Prim.Native.Nat.{ℕ, zero, suc, _+_, _/_, _%_}
 use lib.ListN.{length, take, drop}

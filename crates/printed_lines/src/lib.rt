@@ -1,6 +1,5 @@
 // The lines that the program prints, of a refusal or of an accepted certificate. Each function writes at the front of a
 // lent buffer, which has to be long enough, and answers how many bytes that is. What stands beyond them stays as it was.
-ghost use mathlib.Core.Path.{_≡_};
 ghost use Prim.Native.Nat.{_*_, _<_, _≤_};
 ghost use lib.ListN.{length};
 ghost use Rattle.arith.specs.Sums.{upto, across};
