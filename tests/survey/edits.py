@@ -28,6 +28,8 @@ EDITS = [
     ("zone_requirement_more", "CaseCheck", "within 0 2000000 (c .zoneRequirement z k)", "within 0 8000000 (c .zoneRequirement z k)"),
     ("power_left_out", "CaseCheck", "∷ r .initial ∷ r .offLineResponse ∷ r .offLineShortTerm ∷ r .selfSchedule ∷ []", "∷ r .initial ∷ r .offLineResponse ∷ r .offLineShortTerm ∷ []"),
     ("resources_more", "CaseCheck", "mostResources = 64", "mostResources = 65"),
+    ("flowgates_more", "CaseCheck", "mostFlowgates = 12", "mostFlowgates = 13"),
+    ("flowgates_of_the_paper", "CaseCheck", "mostFlowgates = 12", "mostFlowgates = 16"),
     ("widths_more", "CaseCheck", "leb (widthOf (r .stepWidth) energySteps) 2000000", "leb (widthOf (r .stepWidth) energySteps) 4000000"),
     ("empty_step_between", "CaseCheck", "stepsFollow may w price (suc w′) price′ = ltb 0 w && may price price′", "stepsFollow may w price (suc w′) price′ = may price price′"),
     ("empty_step_priced", "CaseCheck", "stepsFollow may w price zero price′ = withinℤ (pos 0) (pos 0) price′", "stepsFollow may w price zero price′ = withinℤ price′ price′ price′"),
@@ -99,6 +101,10 @@ EDITS = [
     ("lmp_sign", "Prices", "LMP c y i = y Balance -ℤ sumOf", "LMP c y i = y Balance +ℤ sumOf"),
     ("spinning_alone", "Prices", "zoneSpinningPrice y z = bothRows y z operating +ℤ bothRows y z regulatingPlusSpinning", "zoneSpinningPrice y z = bothRows y z regulatingPlusSpinning"),
     ("zone_prices_swapped", "Prices", "zoneRegulatingPrice y z ∷ zoneSpinningPrice y z ∷ zoneSupplementalPrice y z ∷", "zoneRegulatingPrice y z ∷ zoneSupplementalPrice y z ∷ zoneSpinningPrice y z ∷"),
+    # sizes of sums
+    ("lmp_of_eleven_flowgates", "Sizes", "mostLmp = (1 + mostFlowgates) * mostPrice", "mostLmp = mostFlowgates * mostPrice"),
+    ("rows_of_eleven_flowgates", "Sizes", "+ mostFlowgates * (mostCents * (1000 * mostFlowgateLimit))", "+ 11 * (mostCents * (1000 * mostFlowgateLimit))"),
+    ("gap_of_eleven_flowgates", "Fits", "natAbs (gap c x y) ≤ 2937600000000000000", "natAbs (gap c x y) ≤ 2878400000000000000"),
     # refusals and operations
     ("numbers_swapped", "Refusals", "numberOf FieldRange = 5\nnumberOf StepRule = 6", "numberOf FieldRange = 6\nnumberOf StepRule = 5"),
     ("case_from_169", "Outcome", "unless (lengthRight leastCaseSize b) CaseLength", "unless (lengthRight 169 b) CaseLength"),

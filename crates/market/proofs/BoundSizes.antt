@@ -13,12 +13,12 @@ use Rattle.market.specs.Cost.{Priced, priced, quantityOf, pricedUpperBou
 use Rattle.market.specs.Bound.{rowValue, netPrice, lowest, bound}
 use Rattle.market.proofs.Families.{RowOf, QuantityOf, PricedOf, quantity-of, each-row}
 use Rattle.market.proofs.LargestCase.{rows-most, quantities-most}
-use Rattle.market.specs.Sizes.{mostRight, mostAmount, mostPrice, mostNet}
+use Rattle.market.specs.Sizes.{mostRight, mostAmount, mostPrice, mostNet, mostTaken, mostProducts, mostRowTerms, mostBound}
 use Rattle.market.proofs.Ranges.{CaseRanges, PriceRanges}
 use Rattle.market.proofs.RowSizes.{coefficient-size, right-size}
 use Rattle.market.proofs.AmountSizes.{capacity, width-most, priced-most}
 use Rattle.market.proofs.NetPriceSizes.{net-size}
-use Rattle.market.proofs.LargestSums.{mostProducts, mostRowTerms, mostTaken, products-figure, row-terms-figure, taken-figure, price-figure}
+use Rattle.market.proofs.LargestSums.{products-figure, row-terms-figure, taken-figure, price-figure}
 use Rattle.market.proofs.ScheduleSizes.{offered-size}
 
 module _ (c : Case) (h : CaseRanges c) (y : Prices) (p : PriceRanges c y) where
@@ -76,6 +76,6 @@ module _ (c : Case) (h : CaseRanges c) (y : Prices) (p : PriceRanges c y) where
   pub lowest-most : sizeOf (lowest c y) (priced c) ≤ mostProducts
   lowest-most = net-rated (lowest c y) lowest-size
 
-  pub bound-size : Size (bound c y) (mostRowTerms + mostProducts)
+  pub bound-size : Size (bound c y) mostBound
   unfolding bound
   bound-size = size-add (size-sum _ (rows c) row-terms-most) (size-sum _ (priced c) lowest-most)

@@ -1,42 +1,16 @@
--- Figures for sums: computed over the largest case, and such that hold of each row or quantity.
+-- The figures of sums are those computed over the largest case; and figures that hold of each row or quantity.
 use mathlib.Core.Path.{_≡_, refl}
 use Prim.Native.Nat.{ℕ, _+_, _*_, _≤_}
 use native.Mathlib.Omega.{arith}
-use lib.ListN.{length}
 use Rattle.arith.specs.Sums.{totalOf, upto, across}
-use Rattle.market.specs.Case.{Case, curves, curveSteps}
-use Rattle.market.specs.CaseCheck.{mostResources, mostZones, mostFlowgates}
-use Rattle.market.specs.UpperBounds.{services, energy, regulation, contingency, onLineShortTerm, offLineShortTerm, Quantity, Cleared, Provided, quantities}
-use Rattle.market.specs.Rows.{Row, Balance, Market, Zone, Flowgate, Limited, Limit, maxWithReserve, maxWithShortTerm, minimum, high, low, limits, rows}
+use Rattle.market.specs.Case.{Case}
+use Rattle.market.specs.UpperBounds.{energy, regulation, contingency, onLineShortTerm, offLineShortTerm, Quantity, Cleared, Provided, quantities}
+use Rattle.market.specs.Rows.{Row, Balance, Market, Zone, Flowgate, Limited, Limit, maxWithReserve, maxWithShortTerm, minimum, high, low, rows}
 use Rattle.market.specs.Certificate.{highestPrice}
 use Rattle.market.proofs.LargestCase.{largest}
-use Rattle.market.specs.Sizes.{mostPower, mostCents, mostDemand, mostCurveWidth, mostZoneRequirement, mostFlowgateLimit, mostFactor, mostLimit, mostCoefficient, mostRight, mostAmount, mostPrice, mostServiceNet, mostCurveNet, mostNet}
+use Rattle.market.specs.Sizes.{mostDemand, mostFactor, mostLimit, mostCoefficient, mostRight, mostAmount, mostPrice, mostNet, mostAmounts, mostTaken, mostCost, mostProducts, mostRowTerms, mostCharge}
 
--- ---- figures, computed over the largest case
--- all amounts together, in kW
-abbrev pub mostAmounts : ℕ
-mostAmounts = length curves * (curveSteps * mostCurveWidth) + mostResources * (length services * mostPower)
-
--- in grains: a schedule's cost; over all that is priced, net price × width; over all rows, row price × right side
-abbrev pub mostCost : ℕ
-mostCost = mostPrice * mostAmounts
-
-abbrev pub mostProducts : ℕ
-mostProducts =
-    length curves * (mostCurveNet * (curveSteps * mostCurveWidth))
-    + mostResources * ((mostServiceNet energy + mostServiceNet regulation + mostServiceNet contingency + mostServiceNet onLineShortTerm + mostServiceNet offLineShortTerm) * mostPower)
-
-abbrev pub mostRowTerms : ℕ
-mostRowTerms =
-    mostPrice * mostDemand
-    + mostZones * (length curves * (mostPrice * mostZoneRequirement))
-    + mostFlowgates * (mostCents * (1000 * mostFlowgateLimit))
-    + mostResources * (mostPrice * (mostLimit maxWithReserve + mostLimit maxWithShortTerm + mostLimit minimum + mostLimit high + mostLimit low))
-
--- in thousandths of a cent: over all rows, row price × a quantity's coefficient
-abbrev pub mostTaken : ℕ
-mostTaken = (1 + length curves + mostZones * length curves + mostFlowgates + mostResources * length limits) * mostPrice
-
+-- ---- sums over the largest case
 module _ (c : Case) where
   pub amounts-figure : totalOf mostAmount (quantities (largest c)) ≡ mostAmounts
   unfolding totalOf quantities upto across
@@ -59,14 +33,6 @@ module _ (c : Case) where
   taken-figure = refl
 
 -- ---- figures of one row or quantity
--- a row's left side and its right side are each at most its coefficient times so many kW
-abbrev pub mostSlack : Row → ℕ
-mostSlack r = mostCoefficient r * (mostAmounts + mostDemand)
-
--- in grains
-abbrev pub mostCharge : ℕ
-mostCharge = mostPrice * (mostAmounts + mostDemand)
-
 -- a flowgate's price is in cents, as its factors are in thousandths
 pub price-figure : (r : Row) → highestPrice r * mostCoefficient r ≡ mostPrice
 price-figure Balance = refl

@@ -77,7 +77,7 @@ module _ (c : Case) (y : Prices) (h : CaseRanges c) (p : PriceRanges c y) where
     own : (l : Limit) → Size (y (Limited i l)) mostPrice
     own l = p .price (Limited i l) n
 
-    net-energy : (j : ℕ) → j < energySteps → Size (netPrice c y (EnergyStep i j)) (mostNet (Provided i energy))
+    pub net-energy : (j : ℕ) → j < energySteps → Size (netPrice c y (EnergyStep i j)) (mostNet (Provided i energy))
     net-energy j m =
         rw (words .energy-step i j z placed)
         (size-add (size-sub (offered (h .resource i n .step-price j m)) (lmp-size i n))

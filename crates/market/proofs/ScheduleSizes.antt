@@ -13,12 +13,12 @@ use Rattle.market.specs.Rows.{Row, coefficient, leftSide, slack, Bounded
 use Rattle.market.specs.Cost.{Priced, priced, offer, part, cost}
 use Rattle.market.proofs.Families.{RowOf, QuantityOf, PricedOf, at-quantity, each-quantity}
 use Rattle.market.proofs.LargestCase.{quantities-most}
-use Rattle.market.specs.Sizes.{mostCoefficient, mostAmount, mostPrice}
+use Rattle.market.specs.Sizes.{mostCoefficient, mostAmount, mostPrice, mostAmounts, mostCost, mostSlack}
 use Rattle.market.proofs.Ranges.{CaseRanges}
 use Rattle.market.proofs.RowSizes.{coefficient-size, right-size}
 use Rattle.market.proofs.AmountSizes.{capacity, part-most, amount-most, priced-most}
 use Rattle.market.proofs.NetPriceSizes.{offer-size}
-use Rattle.market.proofs.LargestSums.{mostAmounts, mostCost, mostSlack, amounts-figure, cost-figure, right-figure}
+use Rattle.market.proofs.LargestSums.{amounts-figure, cost-figure, right-figure}
 
 module _ (c : Case) (h : CaseRanges c) where
   -- an offer in thousandths of a cent

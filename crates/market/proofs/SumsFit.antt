@@ -1,4 +1,5 @@
--- Every sum fits a signed 64-bit number: the terms' absolute values together are no more than figures computed over the largest case.
+-- Every sum fits a signed 64-bit number, and is no larger than its figure: the terms' absolute values together are no more than figures
+-- computed over the largest case.
 use mathlib.Core.List.{map}
 use Prim.Native.Nat.{ℕ, _*_, _<_, _≤_}
 use native.Mathlib.Nat.{mul-le-mul}
@@ -8,7 +9,7 @@ use Rattle.arith.specs.Sums.{sizeOf, upto, Each}
 use Rattle.arith.proofs.Lists.{each-any, each-join, each-map, each-upto}
 use Rattle.arith.proofs.Magnitudes.{Size, size-sub}
 use Rattle.arith.proofs.NaturalSums.{total-mono-all, total-same}
-use Rattle.market.specs.Case.{Case, Curve, curves, Reserve, reserves, curveSteps}
+use Rattle.market.specs.Case.{Case, Curve, curves, Reserve, reserves, energySteps, curveSteps}
 use Rattle.market.specs.CaseFile.{caseOf}
 use Rattle.market.specs.UpperBounds.{Schedule}
 use Rattle.market.specs.Rows.{Row, Balance, Market, Zone, rows, Bounded}
@@ -16,17 +17,17 @@ use Rattle.market.specs.Certificate.{Prices, certificateOf}
 use Rattle.market.specs.Cost.{priced, quantityOf}
 use Rattle.market.specs.Charges.{rowCharge, pricedCharge, charges}
 use Rattle.market.specs.Prices.{zonePrices}
-use Rattle.market.specs.Fits.{Fits64, TermsFit, SumsFit, SumsFitTheorem}
+use Rattle.market.specs.Fits.{Fits64, TermsFit, SumsFit, SumsAtMost, SumsFitTheorem}
 use Rattle.market.proofs.Families.{quantity-of, each-row, each-priced}
 use Rattle.market.specs.Sizes.{mostPrice}
 use Rattle.market.proofs.Ranges.{CaseRanges, PriceRanges, valid-ranges, price-ranges, bounded}
 use Rattle.market.proofs.RowSizes.{right-size}
 use Rattle.market.proofs.AmountSizes.{energy-widths, curve-widths}
-use Rattle.market.proofs.NetPriceSizes.{flowgates-most, lmp-size, supplemental-size, spinning-size, regulating-size, short-term-size}
+use Rattle.market.proofs.NetPriceSizes.{flowgates-most, lmp-size, net-energy, supplemental-size, spinning-size, regulating-size, short-term-size}
 use Rattle.market.proofs.LargestSums.{coefficient-figure, right-figure}
 use Rattle.market.proofs.ScheduleSizes.{offered-size, cost-terms-most, cost-size, left-terms-most, left-size, slack-size}
 use Rattle.market.proofs.BoundSizes.{taken-terms-most, any-net-size, row-terms-most, products-most, lowest-most, bound-size}
-use Rattle.market.proofs.ChargeSizes.{row-charge-size, paid-size, paid-figure, priced-charge-size}
+use Rattle.market.proofs.ChargeSizes.{row-charge-size, paid-size, paid-figure, priced-charge-size, energy-charge-size}
 
 module _ (c : Case) (h : CaseRanges c) (y : Prices) (p : PriceRanges c y) (x : Schedule) (b : Bounded c x) where
   charges-fit : Each (λ v. Fits64 v) (charges c x y)
@@ -77,9 +78,24 @@ module _ (c : Case) (h : CaseRanges c) (y : Prices) (p : PriceRanges c y) (x : S
         zone-prices-fit = each-upto _ (c .zones) zone-fits;
       }
 
+  all-at-most : SumsAtMost c x y
+  all-at-most =
+      record {
+        lmp-terms-most = each-upto _ (c .resources) (λ i m. omega (arith, p .price Balance tt, flowgates-most c y h p i m));
+        lmp-most = each-upto _ (c .resources) (λ i m. lmp-size c y h p i m .le);
+        energy-net-most = each-upto _ (c .resources) (λ i m. each-upto _ energySteps (λ j n. net-energy c y h p i m j n .le));
+        net-terms-most = each-priced c _ (λ q m. omega (arith, offered-size c h q m, taken-terms-most c h y p (quantityOf q) (quantity-of c q m)));
+        energy-charge-most = each-upto _ (c .resources) (λ i m. each-upto _ energySteps (λ j n. energy-charge-size c h y p x b i j m n .le));
+        row-terms-most = row-terms-most c h y p;
+        product-terms-most = products-most c h y p;
+        bound-most = bound-size c h y p .le;
+        cost-most = cost-size c h x b .le;
+        gap-most = size-sub (cost-size c h x b) (bound-size c h y p) .le;
+      }
+
 -- ---- of any case, schedule and prices in their ranges
-pub sums-fit-in-ranges : (c : Case) (x : Schedule) (y : Prices) → CaseRanges c → Bounded c x → PriceRanges c y → SumsFit c x y
-sums-fit-in-ranges c x y h b p = all-fit c h y p x b
+pub sums-fit-in-ranges : (c : Case) (x : Schedule) (y : Prices) → CaseRanges c → Bounded c x → PriceRanges c y → SumsFit c x y × SumsAtMost c x y
+sums-fit-in-ranges c x y h b p = (all-fit c h y p x b, all-at-most c h y p x b)
 
 -- ---- from the bytes
 pub sums-fit : SumsFitTheorem

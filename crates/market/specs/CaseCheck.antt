@@ -18,8 +18,9 @@ mostResources = 64
 abbrev pub mostZones : ℕ
 mostZones = 8
 
+-- 02, request 9: document 01 has 16
 abbrev pub mostFlowgates : ℕ
-mostFlowgates = 16
+mostFlowgates = 12
 
 -- r, z and f are at most these
 pub record CountsWithin (r z f : ℕ) : Type 0 where

@@ -89,8 +89,8 @@ pub record PairsInOrder (r : Resource) : Type 0 where
   pub emergency-pair : r .emergencyMin ≤ r .emergencyMax
 
 pub record CheckInWords : Type 0 where
-  -- R 1..64, Z 1..8, F 0..16
-  pub counts : (r z f : ℕ) → T (countsRight r z f) ↔ (Between 1 64 r × Between 1 8 z × (f ≤ 16))
+  -- R 1..64, Z 1..8, F 0..12
+  pub counts : (r z f : ℕ) → T (countsRight r z f) ↔ (Between 1 64 r × Between 1 8 z × (f ≤ 12))
   pub fields : (c : Case) → T (fieldsInRange c) ↔ FieldsWithin c
   pub steps : (c : Case) → T (stepsRule c) ↔ StepsKept c
   pub pairs : (c : Case) → T (limitsOrdered c) ↔ ((i : ℕ) → i < c .resources → PairsInOrder (c .resource i))

@@ -1,8 +1,8 @@
--- Every sum fits a signed 64-bit number (01, 'The case file': 'that is shown, not assumed'): of a valid case and a
--- certificate whose prices are in range and whose quantities are within their bounds.
+-- Every sum fits a signed 64-bit number (01, 'The case file': 'that is shown, not assumed'; 02, request 9: 'every bound on sums is
+-- restated with 12'): of a valid case and a certificate whose prices are in range and whose quantities are within their bounds.
 use mathlib.Core.List.{List}
 use mathlib.Core.Path.{_≡_}
-use Prim.Native.Nat.{ℕ, _+_, _*_, _<_}
+use Prim.Native.Nat.{ℕ, _+_, _*_, _<_, _≤_}
 use lib.Dec.{T}
 use lib.IntN.{ℤ, pos, natAbs, _*ℤ_}
 use Rattle.arith.specs.Sums.{sizeOf, Each, all, upto}
@@ -12,9 +12,9 @@ use Rattle.market.specs.CaseFile.{caseOf}
 use Rattle.market.specs.UpperBounds.{quantities, Schedule}
 use Rattle.market.specs.Rows.{rows, coefficient, rightSide, Balance, Market, Zone, Flowgate, slack, leftSide}
 use Rattle.market.specs.Certificate.{Prices, certificateOf}
-use Rattle.market.specs.Cost.{priced, quantityOf, offer, pricedUpperBound, part, cost}
+use Rattle.market.specs.Cost.{EnergyStep, priced, quantityOf, offer, pricedUpperBound, part, cost}
 use Rattle.market.specs.Bound.{netPrice, lowest, bound}
-use Rattle.market.specs.Charges.{gap, charges}
+use Rattle.market.specs.Charges.{gap, pricedCharge, charges}
 use Rattle.market.specs.Prices.{LMP, zonePrices}
 use Rattle.market.specs.Refusals.{firstFailing, clear}
 use Rattle.market.specs.Outcome.{Valid, priceRight, withinBound}
@@ -70,9 +70,27 @@ pub record SumsFit (c : Case) (x : Schedule) (y : Prices) : Type 0 where
   pub zone-price-terms : Each (λ z. (sizeOf (λ k. y (Market k)) curves + sizeOf (λ k. y (Zone z k)) curves) < range64) (upto (c .zones))
   pub zone-prices-fit : Each (λ z. Each (λ v. Fits64 v) (zonePrices y z)) (upto (c .zones))
 
+-- how large those are that grow with the flowgates: the figures of 64 resources, 8 zones and 12 flowgates
+pub record SumsAtMost (c : Case) (x : Schedule) (y : Prices) : Type 0 where
+  -- in thousandths of a cent: an LMP has row 1 and 12 flowgates, 400,000,000 each; an energy step's net price besides its offer
+  -- and its resource's five rows; the terms of any net price its offer and all 369 rows
+  pub lmp-terms-most : Each (λ i. (natAbs (y Balance) + sizeOf (λ f. y (Flowgate f) *ℤ c .shiftFactor f i) (upto (c .flowgates))) ≤ 5200000000) (upto (c .resources))
+  pub lmp-most : Each (λ i. natAbs (LMP c y i) ≤ 5200000000) (upto (c .resources))
+  pub energy-net-most : Each (λ i. Each (λ j. natAbs (netPrice c y (EnergyStep i j)) ≤ 7600000000) (upto energySteps)) (upto (c .resources))
+  pub net-terms-most : Each (λ p. (natAbs (pos 1000 *ℤ offer c p) + sizeOf (λ row. y row *ℤ coefficient c row (quantityOf p)) (rows c)) ≤ 148000000000) (priced c)
+  -- in grains: an energy step's charge, twice its net price × 2,000,000 kW
+  pub energy-charge-most : Each (λ i. Each (λ j. natAbs (pricedCharge c x y (EnergyStep i j)) ≤ 30400000000000000) (upto energySteps)) (upto (c .resources))
+  -- row price × right side over all rows, net price × upper bound over all that is priced, and their sum
+  pub row-terms-most : sizeOf (λ row. y row *ℤ rightSide c row) (rows c) ≤ 480000000000000000
+  pub product-terms-most : sizeOf (λ p. netPrice c y p *ℤ pos (pricedUpperBound c p)) (priced c) ≤ 2150400000000000000
+  pub bound-most : natAbs (bound c y) ≤ 2630400000000000000
+  -- with the cost, which has no flowgates
+  pub cost-most : natAbs (cost c x) ≤ 307200000000000000
+  pub gap-most : natAbs (gap c x y) ≤ 2937600000000000000
+
 -- past 12 and 13
 abbrev pub SumsFitTheorem : Type 0
 SumsFitTheorem =
     (b q : List ℕ) → Valid b → T (all (priceRight (certificateOf q)) (rows (caseOf b))) →
     firstFailing (withinBound (caseOf b) (certificateOf q)) AboveBound 1 (quantities (caseOf b)) ≡ clear →
-    SumsFit (caseOf b) (certificateOf q .amount) (certificateOf q .price)
+    SumsFit (caseOf b) (certificateOf q .amount) (certificateOf q .price) × SumsAtMost (caseOf b) (certificateOf q .amount) (certificateOf q .price)

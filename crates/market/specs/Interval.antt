@@ -1,7 +1,8 @@
--- The worked interval K and its certificate Q, as bytes, and changes of them (01, 'Worked interval'; 02, requests 2 and 6).
+-- The worked interval K and its certificate Q, as bytes, and changes of them (01, 'Worked interval'; 02, requests 2, 6 and 9).
 use mathlib.Core.List.{List, [], _∷_, _++_}
-use Prim.Native.Nat.{ℕ, _+_, _-_}
+use Prim.Native.Nat.{ℕ, _+_, _-_, _*_}
 use lib.ListN.{length, take, drop, replicate}
+use Rattle.arith.specs.Sums.{upto, across}
 use Rattle.market.specs.Numbers.{u16Bytes, u32Bytes}
 
 abbrev pub zeros : ℕ → List ℕ
@@ -83,9 +84,23 @@ row1To n = change 24 (u32Bytes n)
 abbrev pub highTo : ℕ → List ℕ → List ℕ
 highTo n = change 92 (u32Bytes n)
 
+-- b with n flowgates, each of these bytes (a limit and a factor); q with n of these flowgate prices
+abbrev pub flowgatesTo : ℕ → List ℕ → List ℕ → List ℕ
+flowgatesTo n bytes b = change 0 (u32Bytes (336 + 6 * n)) (change 7 (n ∷ []) b) ++ across (λ f. bytes) (upto n)
+
+abbrev pub flowgatePricesTo : ℕ → List ℕ → List ℕ → List ℕ
+flowgatePricesTo n bytes q = change 0 (u32Bytes (96 + 4 * n)) (change 7 (n ∷ []) (take 60 q)) ++ (across (λ f. bytes) (upto n) ++ drop 60 q)
+
 -- one flowgate, its limit 0, its factor -60; and its price 200 cents
 abbrev pub gatedK : List ℕ
-gatedK = change 0 (u32Bytes 342) (change 7 (1 ∷ []) K) ++ (u32Bytes 0 ++ u16Bytes (65536 - 60))
+gatedK = flowgatesTo 1 (u32Bytes 0 ++ u16Bytes (65536 - 60)) K
 
 abbrev pub gatedQ : List ℕ
-gatedQ = change 0 (u32Bytes 100) (change 7 (1 ∷ []) (take 60 Q)) ++ (u32Bytes 200 ++ drop 60 Q)
+gatedQ = flowgatePricesTo 1 (u32Bytes 200) Q
+
+-- n flowgates of the largest limit and factor; their highest price, with row 1's lowest, so that the LMP is as low as they make it
+abbrev pub gated : ℕ → List ℕ
+gated n = flowgatesTo n (u32Bytes 20000000 ++ u16Bytes 1000) K
+
+abbrev pub gatedAtHighest : ℕ → List ℕ
+gatedAtHighest n = flowgatePricesTo n (u32Bytes 400000) (change 24 (minus32 400000000) Q)

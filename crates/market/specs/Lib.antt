@@ -18,6 +18,7 @@ pub mod Numbers
 pub mod Program
 pub mod Interval
 pub mod Worked
+pub mod WorkedFlowgates
 pub mod WorkedTrips
 pub mod Promise
 pub mod RefusedExactly

@@ -1,11 +1,13 @@
 -- How large the figures of a valid case can be, and the prices made of row prices in range (01, 'The case file', ranges;
--- 'Certificate, cost, bound, charges'). This is the one table of such figures. That they hold is proved in LimitSizes, RowSizes,
--- AmountSizes and NetPriceSizes, that all sums over the largest case fit in SumsFit; the code's contracts carry them.
+-- 'Certificate, cost, bound, charges'; 02, request 9). This is the one table of such figures. That they hold is proved in LimitSizes,
+-- RowSizes, AmountSizes, NetPriceSizes and BoundSizes, that all sums fit in SumsFit; the code's contracts carry them. `Fits.SumsAtMost`
+-- has those of sums in decimals.
 use Prim.Native.Nat.{ℕ, _+_, _*_}
-use Rattle.market.specs.Case.{curveSteps}
-use Rattle.market.specs.CaseCheck.{mostFlowgates}
-use Rattle.market.specs.UpperBounds.{Service, energy, regulation, contingency, onLineShortTerm, offLineShortTerm, Quantity, Cleared, Provided}
-use Rattle.market.specs.Rows.{Row, Balance, Market, Zone, Flowgate, Limited, Limit, maxWithReserve, maxWithShortTerm, minimum, high, low}
+use lib.ListN.{length}
+use Rattle.market.specs.Case.{curves, curveSteps}
+use Rattle.market.specs.CaseCheck.{mostResources, mostZones, mostFlowgates}
+use Rattle.market.specs.UpperBounds.{Service, services, energy, regulation, contingency, onLineShortTerm, offLineShortTerm, Quantity, Cleared, Provided}
+use Rattle.market.specs.Rows.{Row, Balance, Market, Zone, Flowgate, Limited, Limit, maxWithReserve, maxWithShortTerm, minimum, high, low, limits}
 
 -- ---- the ends of the ranges
 -- of a resource's power and of a width of its steps, in kW
@@ -105,3 +107,43 @@ mostCurveNet = mostPrice + mostPrice
 abbrev pub mostNet : Quantity → ℕ
 mostNet (Cleared k) = mostCurveNet
 mostNet (Provided i s) = mostServiceNet s
+
+-- ---- sums, over as many resources, zones and flowgates as there may be
+-- all amounts together, in kW
+abbrev pub mostAmounts : ℕ
+mostAmounts = length curves * (curveSteps * mostCurveWidth) + mostResources * (length services * mostPower)
+
+-- in thousandths of a cent: over all rows, row price × a quantity's coefficient
+abbrev pub mostTaken : ℕ
+mostTaken = (1 + length curves + mostZones * length curves + mostFlowgates + mostResources * length limits) * mostPrice
+
+-- in grains: a schedule's cost; over all that is priced, net price × upper bound; over all rows, row price × right side
+abbrev pub mostCost : ℕ
+mostCost = mostPrice * mostAmounts
+
+abbrev pub mostProducts : ℕ
+mostProducts =
+    length curves * (mostCurveNet * (curveSteps * mostCurveWidth))
+    + mostResources * ((mostServiceNet energy + mostServiceNet regulation + mostServiceNet contingency + mostServiceNet onLineShortTerm + mostServiceNet offLineShortTerm) * mostPower)
+
+abbrev pub mostRowTerms : ℕ
+mostRowTerms =
+    mostPrice * mostDemand
+    + mostZones * (length curves * (mostPrice * mostZoneRequirement))
+    + mostFlowgates * (mostCents * (1000 * mostFlowgateLimit))
+    + mostResources * (mostPrice * (mostLimit maxWithReserve + mostLimit maxWithShortTerm + mostLimit minimum + mostLimit high + mostLimit low))
+
+abbrev pub mostBound : ℕ
+mostBound = mostRowTerms + mostProducts
+
+abbrev pub mostGap : ℕ
+mostGap = mostCost + mostBound
+
+-- ---- and of one row or quantity
+-- a row's left side and its right side are each at most its coefficient times so many kW
+abbrev pub mostSlack : Row → ℕ
+mostSlack r = mostCoefficient r * (mostAmounts + mostDemand)
+
+-- in grains
+abbrev pub mostCharge : ℕ
+mostCharge = mostPrice * (mostAmounts + mostDemand)

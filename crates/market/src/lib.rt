@@ -23,7 +23,7 @@ pub const MOST_RESOURCES: usize = 64;
 
 pub const MOST_ZONES: usize = 8;
 
-pub const MOST_FLOWGATES: usize = 16;
+pub const MOST_FLOWGATES: usize = 12;
 
 // Of a case.
 pub const HEAD_SIZE: usize = 170;

@@ -103,5 +103,5 @@ unfolding outcome valuation
 accepted-fits b q v e =
     let a = accepted-is (valuation (caseOf b) (certificateOf q)) v (firstOf (grounds b q)) e in
     let s = all-standing b q (countsIn (caseOf b)) (record { none-holds = a .0; counts = refl }) in
-    let fit = sums-fit-in-ranges (caseOf b) (certificateOf q .amount) (certificateOf q .price) (valid-ranges b (s .prices .valid)) (s .bounded) (price-ranges (caseOf b) (certificateOf q) (s .prices .in-range)) in
+    let fit = sums-fit-in-ranges (caseOf b) (certificateOf q .amount) (certificateOf q .price) (valid-ranges b (s .prices .valid)) (s .bounded) (price-ranges (caseOf b) (certificateOf q) (s .prices .in-range)) .0 in
     (rw (← (a .1)) (fit .cost-fits), rw (← (a .1)) (fit .bound-fits), rw (← (a .1)) (fit .gap-fits))

@@ -19,14 +19,14 @@ use Rattle.market.proofs.Families.{RowOf}
 use Rattle.market.proofs.Ranges.{CaseRanges, PriceRanges}
 use Rattle.market.proofs.RowSlacks.{rows-in-words}
 use Rattle.market.proofs.RowSizes.{right-size}
-use Rattle.market.proofs.LargestSums.{mostAmounts, coefficient-figure}
+use Rattle.market.proofs.LargestSums.{coefficient-figure}
 use Rattle.market.proofs.ScheduleSizes.{amount-of, slack-size}
 use Rattle.market.proofs.ChargeSizes.{row-charge-size}
 use Rattle.units.specs.Room.{ProductRoom}
 use Rattle.limits.specs.Together.{limitsOf}
 use Rattle.prices.specs.Standing.{SmallAmounts}
 use Rattle.row_charges.specs.Families.{RowChargeRoom, FourRoom, FiveRoom}
-use Rattle.market.specs.Sizes.{mostCents, mostDemand, mostFactor, mostFlowgateLimit, mostPrice}
+use Rattle.market.specs.Sizes.{mostCents, mostDemand, mostFactor, mostFlowgateLimit, mostPrice, mostAmounts}
 
 highest-figure : (r : Row) → highestPrice r ≤ mostPrice
 highest-figure Balance = omega arith
