@@ -4,12 +4,12 @@
 //! Usage: make-corpus DIR
 
 use nostwier_reference::case::{flag, status, Curve, Flowgate, Kind, Step};
-use nostwier_reference::damage::{every_damage, Damaged};
+use nostwier_reference::damage::{every_damage_with_its_flowgates, Damaged, TOO_MANY_FLOWGATES};
 use nostwier_reference::generate::{pair_of_counts, pair_of_scale, Pair, Scale};
-use nostwier_reference::layout::Counts;
+use nostwier_reference::layout::{Counts, MOST_FLOWGATES, MOST_RESOURCES, MOST_ZONES};
 use nostwier_reference::program::whole_text;
 use nostwier_reference::random::Random;
-use nostwier_reference::{read_case, read_certificate, worked};
+use nostwier_reference::worked;
 use std::collections::BTreeMap;
 use std::io;
 use std::path::{Path, PathBuf};
@@ -38,7 +38,7 @@ fn make(directory: &Path) -> io::Result<()> {
     for (name, pair) in generated_pairs() {
         pairs.pair(&format!("generated-{name}"), &pair.case_file(), &pair.certificate_file())?;
     }
-    for (name, case, certificate) in refused_pairs() {
+    for (name, case, certificate) in refused_pairs().into_iter().chain(flowgate_pairs()) {
         pairs.pair(&name, &case, &certificate)?;
     }
     let operations = Corpus::new(directory.join("operations"))?;
@@ -226,7 +226,14 @@ fn counts(resources: usize, zones: usize, flowgates: usize) -> Counts {
 
 /// Accepted pairs from the smallest to the largest.
 fn generated_pairs() -> Vec<(String, Pair)> {
-    let sizes = [(1, 1, 0), (1, 8, 16), (3, 2, 1), (8, 3, 4), (20, 8, 8), (64, 8, 16)];
+    let sizes = [
+        (1, 1, 0),
+        (1, MOST_ZONES, MOST_FLOWGATES),
+        (3, 2, 1),
+        (8, 3, 4),
+        (20, 8, 8),
+        (MOST_RESOURCES, MOST_ZONES, MOST_FLOWGATES),
+    ];
     sizes
         .into_iter()
         .enumerate()
@@ -241,8 +248,13 @@ fn generated_pairs() -> Vec<(String, Pair)> {
 /// Cases that solvers are given, of common size.
 fn cases_to_solve() -> Vec<(String, Vec<u8>)> {
     // Seeds whose whole-number search ends soon, so that no clock has a say.
-    let sizes =
-        [(200, 2, 1, 0), (201, 6, 2, 2), (202, 15, 3, 0), (203, 30, 4, 6), (208, 64, 8, 16)];
+    let sizes = [
+        (200, 2, 1, 0),
+        (201, 6, 2, 2),
+        (202, 15, 3, 0),
+        (203, 30, 4, 6),
+        (211, MOST_RESOURCES, MOST_ZONES, MOST_FLOWGATES),
+    ];
     sizes
         .into_iter()
         .map(|(seed, resources, zones, flowgates)| {
@@ -266,10 +278,11 @@ fn how_many(number: u32) -> usize {
 }
 
 /// Damaged pairs that the program refuses as it must, split as it splits them.
+/// Files with too many flowgates have pairs of their own.
 fn refused_pairs() -> Vec<(String, Vec<u8>, Vec<u8>)> {
     let pair = pair_of_counts(&mut Random::new(300), counts(2, 2, 2));
     let mut by_number: BTreeMap<u32, Vec<Damaged>> = BTreeMap::new();
-    for damaged in every_damage(&pair) {
+    for damaged in every_damage_with_its_flowgates(&pair) {
         let printed = whole_text(&[&damaged.case[..], &damaged.certificate].concat());
         if printed == format!("{}\n", damaged.refusal) {
             by_number.entry(damaged.refusal.number()).or_default().push(damaged);
@@ -313,16 +326,52 @@ fn too_long() -> Vec<(String, Vec<u8>, Vec<u8>)> {
     vec![longest, ("refused-17".to_string(), case, certificate)]
 }
 
-/// The other subcommands: name, arguments and standard input.
-fn operation_inputs() -> Vec<(&'static str, &'static str, Vec<u8>)> {
+/// As many flowgates as a case may have, and too many: the next number, the
+/// largest before request 9 and one more. The largest that a byte holds is left
+/// out, to keep files small.
+const FLOWGATES: [usize; 4] =
+    [MOST_FLOWGATES, TOO_MANY_FLOWGATES[0], TOO_MANY_FLOWGATES[1], TOO_MANY_FLOWGATES[2]];
+
+/// An accepted pair of as many flowgates as a case may have, laid out with so
+/// many: nothing but their number is wrong with it.
+fn pair_of_flowgates(flowgates: usize) -> Pair {
+    let pair = pair_of_counts(&mut Random::new(516), counts(2, 1, MOST_FLOWGATES));
+    pair.with_flowgates(flowgates)
+}
+
+/// Both files with 12 flowgates, which are accepted, and with more: 3. Then a
+/// certificate with more beside the valid case: 10.
+fn flowgate_pairs() -> Vec<(String, Vec<u8>, Vec<u8>)> {
+    let mut list = Vec::new();
+    let valid = pair_of_flowgates(MOST_FLOWGATES);
+    for flowgates in FLOWGATES {
+        let pair = pair_of_flowgates(flowgates);
+        let certificate = pair.certificate_file();
+        list.push((format!("flowgates-{flowgates}"), pair.case_file(), certificate.clone()));
+        if flowgates > MOST_FLOWGATES {
+            let name = format!("flowgates-certificate-{flowgates}");
+            list.push((name, valid.case_file(), certificate));
+        }
+    }
+    list
+}
+
+/// An input of another subcommand: name, arguments and standard input.
+type OperationInput = (String, &'static str, Vec<u8>);
+
+fn operation_inputs() -> Vec<OperationInput> {
+    let mut list = inputs_of_a_common_pair();
+    for flowgates in FLOWGATES {
+        list.extend(inputs_of_flowgates(flowgates));
+    }
+    list
+}
+
+fn inputs_of_a_common_pair() -> Vec<OperationInput> {
     let pair = pair_of_counts(&mut Random::new(400), counts(3, 2, 2));
     let joined = [pair.case_file(), pair.certificate_file()].concat();
-    let mut numbers = vec![0; 1000];
-    let count = read_case(&pair.case_file(), &mut numbers).unwrap_or(0);
-    let case_lines = lines(&numbers[..count]);
-    let count = read_certificate(&pair.certificate_file(), &mut numbers).unwrap_or(0);
-    let certificate_lines = lines(&numbers[..count]);
-    vec![
+    let (case_lines, certificate_lines) = (case_lines(&pair), certificate_lines(&pair));
+    [
         ("case", "case", pair.case_file()),
         ("prices", "prices", joined.clone()),
         ("charges", "charges", joined.clone()),
@@ -334,6 +383,52 @@ fn operation_inputs() -> Vec<(&'static str, &'static str, Vec<u8>)> {
         ("write-certificate", "write-certificate", certificate_lines),
         ("write-certificate-03", "write-certificate", b"1\n9\n0\n".to_vec()),
     ]
+    .map(|(name, arguments, input)| (name.to_string(), arguments, input))
+    .into()
+}
+
+/// Every subcommand with files of so many flowgates; if that is too many, prices
+/// and charges with such a certificate beside the valid case as well.
+fn inputs_of_flowgates(flowgates: usize) -> Vec<OperationInput> {
+    let pair = pair_of_flowgates(flowgates);
+    let (case, certificate) = (pair.case_file(), pair.certificate_file());
+    let joined = [&case[..], &certificate].concat();
+    let mut list = vec![
+        (format!("case-flowgates-{flowgates}"), "case", case.clone()),
+        (format!("prices-flowgates-{flowgates}"), "prices", joined.clone()),
+        (format!("charges-flowgates-{flowgates}"), "charges", joined),
+        (format!("read-case-flowgates-{flowgates}"), "read-case", case),
+        (format!("read-certificate-flowgates-{flowgates}"), "read-certificate", certificate),
+        (format!("write-case-flowgates-{flowgates}"), "write-case", case_lines(&pair)),
+        (
+            format!("write-certificate-flowgates-{flowgates}"),
+            "write-certificate",
+            certificate_lines(&pair),
+        ),
+    ];
+    if flowgates > MOST_FLOWGATES {
+        let valid = pair_of_flowgates(MOST_FLOWGATES).case_file();
+        let beside = [valid, pair.certificate_file()].concat();
+        for subcommand in ["prices", "charges"] {
+            let name = format!("{subcommand}-flowgates-certificate-{flowgates}");
+            list.push((name, subcommand, beside.clone()));
+        }
+    }
+    list
+}
+
+/// The three counts of a pair and the numbers after them, a line each.
+fn counted_lines(counts: Counts, numbers: &[i64]) -> Vec<u8> {
+    let counts = [counts.resources, counts.zones, counts.flowgates].map(|count| count as i64);
+    lines(&[&counts[..], numbers].concat())
+}
+
+fn case_lines(pair: &Pair) -> Vec<u8> {
+    counted_lines(pair.case.counts, &pair.case.numbers())
+}
+
+fn certificate_lines(pair: &Pair) -> Vec<u8> {
+    counted_lines(pair.certificate.counts, &pair.certificate.numbers())
 }
 
 fn lines(numbers: &[i64]) -> Vec<u8> {

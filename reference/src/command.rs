@@ -2,7 +2,7 @@
 
 use crate::damage;
 use crate::generate::{random_counts, varied_pair};
-use crate::layout::Counts;
+use crate::layout::{Counts, MOST_FLOWGATES, MOST_RESOURCES, MOST_ZONES};
 use crate::operations;
 use crate::program::{self, LONGEST_INPUT};
 use crate::random::Random;
@@ -402,7 +402,10 @@ fn size(resources: &str, zones: &str, flowgates: &str) -> Result<Counts, Trouble
     let number = |text: &str| text.parse::<i64>().unwrap_or(-1);
     match Counts::within_range(number(resources), number(zones), number(flowgates)) {
         Some(counts) => Ok(counts),
-        None => fault("--size wants 1 to 64 resources, 1 to 8 zones, 0 to 16 flowgates"),
+        None => fault(format!(
+            "--size wants 1 to {MOST_RESOURCES} resources, 1 to {MOST_ZONES} zones, \
+             0 to {MOST_FLOWGATES} flowgates"
+        )),
     }
 }
 

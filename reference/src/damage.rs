@@ -22,8 +22,19 @@ pub struct Damaged {
     pub refusal: Refusal,
 }
 
-/// The systematic kinds of damage.
-const KINDS: [fn(&Pair) -> Vec<Damaged>; 9] = [
+type DamageKind = fn(&Pair) -> Vec<Damaged>;
+
+/// The limit before request 9, which a program that missed it still has.
+const EARLIER_MOST_FLOWGATES: usize = 16;
+
+/// Numbers of flowgates that are too many, those that are easily let through
+/// before the largest that a byte holds.
+pub const TOO_MANY_FLOWGATES: [usize; 4] =
+    [MOST_FLOWGATES + 1, EARLIER_MOST_FLOWGATES, EARLIER_MOST_FLOWGATES + 1, u8::MAX as usize];
+
+/// The systematic kinds of damage to files that stay laid out with the flowgates
+/// of their pair.
+const KINDS: [DamageKind; 9] = [
     case_fields_past_their_ends,
     certificate_fields_past_their_ends,
     quantities_above_their_bounds,
@@ -35,14 +46,23 @@ const KINDS: [fn(&Pair) -> Vec<Damaged>; 9] = [
     broken_rows,
 ];
 
-/// Every damage of the systematic kinds, and what tripped resources may not sell.
+/// Every damage of the systematic kinds, what tripped resources may not sell,
+/// and files laid out with too many flowgates.
 pub fn every_damage(pair: &Pair) -> Vec<Damaged> {
+    let mut list = every_damage_with_its_flowgates(pair);
+    list.extend(too_many_flowgates(pair));
+    list
+}
+
+/// Every damage to files that stay laid out with the flowgates of their pair.
+pub fn every_damage_with_its_flowgates(pair: &Pair) -> Vec<Damaged> {
     KINDS.iter().flat_map(|kind| kind(pair)).chain(reserve_of_tripped(pair)).collect()
 }
 
 /// One systematic damage, its kind drawn first so that no kind is rare.
 pub fn some_damage(random: &mut Random, pair: &Pair) -> Option<Damaged> {
-    let mut damages = random.pick(&KINDS)(pair);
+    let kinds = [&KINDS[..], &[too_many_flowgates]].concat();
+    let mut damages = random.pick(&kinds)(pair);
     if damages.is_empty() {
         return None;
     }
@@ -139,53 +159,88 @@ pub fn reserve_of_tripped(pair: &Pair) -> Vec<Damaged> {
     list
 }
 
-/// Versions and counts other than they should be.
+/// Versions and counts other than they should be, the size as it was.
 pub fn heads(pair: &Pair) -> Vec<Damaged> {
-    let case = pair.case_file();
-    let certificate = pair.certificate_file();
-    let counts = pair.case.counts;
+    let mut list = other_versions(pair);
+    list.extend(counts_out_of_range(pair));
+    list.extend(counts_off_by_one(pair));
+    list.extend(flowgates_of_the_certificate(pair));
+    list
+}
+
+/// A damage to the case alone, and one to the certificate alone.
+fn of_case(what: String, case: Vec<u8>, pair: &Pair, refusal: Refusal) -> Damaged {
+    Damaged { what, case, certificate: pair.certificate_file(), refusal }
+}
+
+fn of_certificate(what: String, pair: &Pair, certificate: Vec<u8>, refusal: Refusal) -> Damaged {
+    Damaged { what, case: pair.case_file(), certificate, refusal }
+}
+
+fn other_versions(pair: &Pair) -> Vec<Damaged> {
     let mut list = Vec::new();
     for version in [0, 128, 255] {
-        list.push(Damaged {
-            what: format!("case version {version}"),
-            case: with_byte(&case, 4, version),
-            certificate: certificate.clone(),
-            refusal: Refusal::CaseVersion,
-        });
-        list.push(Damaged {
-            what: format!("certificate version {version}"),
-            case: case.clone(),
-            certificate: with_byte(&certificate, 4, version),
-            refusal: Refusal::CertificateVersion,
-        });
+        let what = format!("case version {version}");
+        let case = with_byte(&pair.case_file(), 4, version);
+        list.push(of_case(what, case, pair, Refusal::CaseVersion));
+        let what = format!("certificate version {version}");
+        let certificate = with_byte(&pair.certificate_file(), 4, version);
+        list.push(of_certificate(what, pair, certificate, Refusal::CertificateVersion));
     }
-    let most = [MOST_RESOURCES, MOST_ZONES, MOST_FLOWGATES];
-    let [resources, zones, flowgates] = most.map(|most| most as u8 + 1);
-    let wrong =
-        [(5, 0), (5, resources), (5, 255), (6, 0), (6, zones), (6, 255), (7, flowgates), (7, 255)];
-    for (at, count) in wrong {
-        list.push(Damaged {
-            what: format!("count at byte {at} is {count}"),
-            case: with_byte(&case, at, count),
-            certificate: certificate.clone(),
-            refusal: Refusal::Counts,
-        });
-    }
+    list
+}
+
+fn counts_out_of_range(pair: &Pair) -> Vec<Damaged> {
+    let [resources, zones] = [MOST_RESOURCES, MOST_ZONES].map(|most| most as u8 + 1);
+    let mut wrong = vec![(5, 0), (5, resources), (5, 255), (6, 0), (6, zones), (6, 255)];
+    wrong.extend(TOO_MANY_FLOWGATES.map(|flowgates| (7, flowgates as u8)));
+    let damaged = |(at, count)| {
+        let what = format!("count at byte {at} is {count}");
+        of_case(what, with_byte(&pair.case_file(), at, count), pair, Refusal::Counts)
+    };
+    wrong.into_iter().map(damaged).collect()
+}
+
+fn counts_off_by_one(pair: &Pair) -> Vec<Damaged> {
+    let counts = pair.case.counts;
     let written = [counts.resources, counts.zones, counts.flowgates];
-    for (offset, (count, most)) in written.into_iter().zip(most).enumerate() {
+    let most = [MOST_RESOURCES, MOST_ZONES, MOST_FLOWGATES];
+    let mut list = Vec::new();
+    for (at, (count, most)) in (5..).zip(written.into_iter().zip(most)) {
         let other = if count < most { count + 1 } else { count - 1 } as u8;
-        list.push(Damaged {
-            what: format!("case count at byte {} off by one", 5 + offset),
-            case: with_byte(&case, 5 + offset, other),
-            certificate: certificate.clone(),
-            refusal: Refusal::CaseSize,
-        });
-        list.push(Damaged {
-            what: format!("certificate count at byte {} off by one", 5 + offset),
-            case: case.clone(),
-            certificate: with_byte(&certificate, 5 + offset, other),
-            refusal: Refusal::CertificateCounts,
-        });
+        let what = format!("case count at byte {at} off by one");
+        let case = with_byte(&pair.case_file(), at, other);
+        list.push(of_case(what, case, pair, Refusal::CaseSize));
+        let what = format!("certificate count at byte {at} off by one");
+        let certificate = with_byte(&pair.certificate_file(), at, other);
+        list.push(of_certificate(what, pair, certificate, Refusal::CertificateCounts));
+    }
+    list
+}
+
+fn flowgates_of_the_certificate(pair: &Pair) -> Vec<Damaged> {
+    let damaged = |flowgates| {
+        let what = format!("the certificate announces {flowgates} flowgates");
+        let certificate = with_byte(&pair.certificate_file(), 7, flowgates as u8);
+        of_certificate(what, pair, certificate, Refusal::CertificateCounts)
+    };
+    TOO_MANY_FLOWGATES.into_iter().map(damaged).collect()
+}
+
+/// Files laid out with more flowgates than are allowed, and right but for that:
+/// 3 for the case, with a certificate of as many and with its own; 10 for the
+/// certificate beside the valid case (request 9).
+pub fn too_many_flowgates(pair: &Pair) -> Vec<Damaged> {
+    let mut list = Vec::new();
+    for flowgates in TOO_MANY_FLOWGATES {
+        let wider = pair.with_flowgates(flowgates);
+        let what = format!("both files are laid out with {flowgates} flowgates");
+        list.push(of_pair(what, &wider, Refusal::Counts));
+        let what = format!("the case is laid out with {flowgates} flowgates");
+        list.push(of_case(what, wider.case_file(), pair, Refusal::Counts));
+        let what = format!("the certificate is laid out with {flowgates} flowgates");
+        let certificate = wider.certificate_file();
+        list.push(of_certificate(what, pair, certificate, Refusal::CertificateCounts));
     }
     list
 }

@@ -33,6 +33,22 @@ impl Pair {
         let fields = layout::certificate_fields(self.certificate.counts);
         layout::write_fields(self.certificate.counts, &self.certificate.numbers(), &fields)
     }
+
+    /// The same pair with another number of flowgates, for which `layout` says
+    /// what they are. It is accepted if that many are allowed.
+    pub fn with_flowgates(&self, flowgates: usize) -> Pair {
+        let own = self.case.counts;
+        let counts = Counts { flowgates, ..own };
+        let numbers = |of: fn(Counts) -> Vec<layout::Field>, numbers: &[i64]| {
+            layout::with_flowgates(&of(own), numbers, &of(counts))
+        };
+        let case = numbers(layout::case_fields, &self.case.numbers());
+        let certificate = numbers(layout::certificate_fields, &self.certificate.numbers());
+        Pair {
+            case: Case::from_numbers(counts, &case),
+            certificate: Certificate::from_numbers(counts, &certificate),
+        }
+    }
 }
 
 /// How large the figures of a case may become, and how often they stand at

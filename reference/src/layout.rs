@@ -12,7 +12,7 @@ pub struct Counts {
 
 pub const MOST_RESOURCES: usize = 64;
 pub const MOST_ZONES: usize = 8;
-pub const MOST_FLOWGATES: usize = 16;
+pub const MOST_FLOWGATES: usize = 12;
 
 pub const VERSION: u8 = 1;
 
@@ -37,9 +37,16 @@ const ROW_PRICE: i64 = 400_000_000;
 impl Counts {
     /// The counts as written, or None if one is out of range.
     pub fn within_range(resources: i64, zones: i64, flowgates: i64) -> Option<Counts> {
+        Counts::of_any_flowgates(resources, zones, flowgates)
+            .filter(|counts| counts.flowgates <= MOST_FLOWGATES)
+    }
+
+    /// As within range, but with as many flowgates as their byte can tell: such
+    /// a file can be laid out, though it is refused.
+    pub fn of_any_flowgates(resources: i64, zones: i64, flowgates: i64) -> Option<Counts> {
         let in_range = (1..=MOST_RESOURCES as i64).contains(&resources)
             && (1..=MOST_ZONES as i64).contains(&zones)
-            && (0..=MOST_FLOWGATES as i64).contains(&flowgates);
+            && Width::U8.holds(flowgates);
         in_range.then_some(Counts {
             resources: resources as usize,
             zones: zones as usize,
@@ -125,6 +132,10 @@ pub struct Field {
 impl Field {
     pub fn allows(&self, number: i64) -> bool {
         (self.least..=self.most).contains(&number)
+    }
+
+    pub fn is_of_flowgate(&self) -> bool {
+        matches!(self.name, "flowgate limit" | "shift factor" | "flowgate price")
     }
 }
 
@@ -332,6 +343,27 @@ pub fn write_fields(counts: Counts, numbers: &[i64], fields: &[Field]) -> Vec<u8
     out
 }
 
+/// The numbers of a file's fields as those of another number of flowgates:
+/// its own flowgates from the first on, and over again if there are too few. If
+/// it has none, those added have limit, shift factors and price 0. A schedule
+/// that keeps every row of the case keeps every row of what it becomes.
+pub fn with_flowgates(fields: &[Field], numbers: &[i64], wanted: &[Field]) -> Vec<i64> {
+    let chosen = |of_flowgate: bool| {
+        let pairs = fields.iter().zip(numbers);
+        pairs.filter(move |(field, _)| field.is_of_flowgate() == of_flowgate).map(|(_, it)| *it)
+    };
+    let mut of_flowgates = chosen(true).cycle();
+    let mut others = chosen(false);
+    let next = |field: &Field| {
+        if field.is_of_flowgate() {
+            of_flowgates.next()
+        } else {
+            others.next()
+        }
+    };
+    wanted.iter().map(next).map(|number| number.unwrap_or(0)).collect()
+}
+
 /// Whether the length a file announces is the number of bytes after it.
 pub fn length_is_right(file: &[u8]) -> bool {
     announced_size(file) == Some(file.len())
@@ -343,14 +375,18 @@ pub fn announced_size(file: &[u8]) -> Option<usize> {
     usize::try_from(length).ok()?.checked_add(4)
 }
 
-/// The counts a file announces, or None if one is out of range or missing.
-pub fn announced_counts(file: &[u8]) -> Option<Counts> {
+/// The three counts a file announces, whatever they are.
+pub fn announced_numbers(file: &[u8]) -> Option<[i64; 3]> {
     match file.get(5..HEAD)? {
-        [resources, zones, flowgates] => {
-            Counts::within_range(i64::from(*resources), i64::from(*zones), i64::from(*flowgates))
-        }
+        [resources, zones, flowgates] => Some([*resources, *zones, *flowgates].map(i64::from)),
         _ => None,
     }
+}
+
+/// The counts a file announces, or None if one is out of range or missing.
+pub fn announced_counts(file: &[u8]) -> Option<Counts> {
+    let [resources, zones, flowgates] = announced_numbers(file)?;
+    Counts::within_range(resources, zones, flowgates)
 }
 
 /// The version a file announces, or None if it is too short.

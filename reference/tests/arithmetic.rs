@@ -9,7 +9,7 @@ use nostwier_reference::certificate::{accept, first_above_bound, first_broken, A
 use nostwier_reference::generate::{
     full_pair, pair_of_counts, pair_of_scale, random_pair, varied_pair, Pair, Scale,
 };
-use nostwier_reference::layout::{case_fields, Counts};
+use nostwier_reference::layout::{case_fields, Counts, MOST_FLOWGATES, MOST_RESOURCES, MOST_ZONES};
 use nostwier_reference::prices::lmps;
 use nostwier_reference::random::Random;
 use nostwier_reference::rows::index_of;
@@ -134,10 +134,12 @@ fn the_cost_is_met_kw_by_kw() {
     assert!(not_zero > 100);
 }
 
+const LARGEST: Counts =
+    Counts { resources: MOST_RESOURCES, zones: MOST_ZONES, flowgates: MOST_FLOWGATES };
+
 /// The widest case there is: every figure and price at an end of its range.
 fn widest(factor: i64, energy_price: i64, row_price: i64) -> Pair {
-    let counts = Counts { resources: 64, zones: 8, flowgates: 16 };
-    let mut pair = pair_of_scale(&mut Random::new(24), counts, Scale::FULL);
+    let mut pair = pair_of_scale(&mut Random::new(24), LARGEST, Scale::FULL);
     for resource in &mut pair.case.resources {
         let mut widest = worked::pair().case.resources.remove(0);
         widest.zone = resource.zone;
@@ -148,16 +150,18 @@ fn widest(factor: i64, energy_price: i64, row_price: i64) -> Pair {
         *resource = widest;
     }
     let limit = if factor > 0 { 20_000_000 } else { -20_000_000 };
-    pair.case.flowgates = vec![Flowgate { limit, factors: vec![factor; 64] }; 16];
-    pair.case.zones = vec![[0; 4]; 8];
+    let flowgate = Flowgate { limit, factors: vec![factor; LARGEST.resources] };
+    pair.case.flowgates = vec![flowgate; LARGEST.flowgates];
+    pair.case.zones = vec![[0; 4]; LARGEST.zones];
     // Factors above 0 let only a part of the energy through.
     let energy = if factor > 0 { 300_000 } else { 2_000_000 };
-    pair.case.demand = 64 * energy;
-    pair.certificate.amounts = vec![0; 4 + 5 * 64];
-    for resource in 0..64 {
+    pair.case.demand = LARGEST.resources as i64 * energy;
+    pair.certificate.amounts = vec![0; 4 + 5 * LARGEST.resources];
+    for resource in 0..LARGEST.resources {
         pair.certificate.amounts[index_of(resource, Product::Energy)] = energy;
     }
-    let flowgates = 5 + 4 * 8..5 + 4 * 8 + 16;
+    let first_flowgate = 5 + 4 * LARGEST.zones;
+    let flowgates = first_flowgate..first_flowgate + LARGEST.flowgates;
     for (index, price) in pair.certificate.row_prices.iter_mut().enumerate() {
         *price = match index {
             0 => row_price,
@@ -176,11 +180,16 @@ fn the_widest_figures_fit_64_bits() {
                 let pair = widest(factor, energy_price, row_price);
                 let accepted = accepted(&pair);
                 assert_charges_make_the_gap(&accepted);
-                let lmp = row_price - 16 * 400_000 * factor;
+                let lmp = row_price - 12 * 400_000 * factor;
                 assert_eq!(lmps(&accepted), Ok(vec![lmp; 64]));
             }
         }
     }
+    // 400,000,000 and 12 times 400,000 cents at a factor of a whole.
+    let lowest = lmps(&accepted(&widest(1000, 400_000, -400_000_000)));
+    assert_eq!(lowest, Ok(vec![-5_200_000_000; 64]));
+    let highest = lmps(&accepted(&widest(-1000, 400_000, 400_000_000)));
+    assert_eq!(highest, Ok(vec![5_200_000_000; 64]));
 }
 
 #[test]
@@ -289,7 +298,8 @@ fn generated_cases_reach_both_ends_of_every_range() {
     }
     let missed: Vec<_> = ends.iter().filter(|(_, ends)| **ends != (true, true)).collect();
     assert!(missed.is_empty(), "{missed:?}");
-    assert!(sizes.contains(&(64, 8, 16)) && sizes.contains(&(1, 1, 0)));
+    assert!(sizes.contains(&(MOST_RESOURCES, MOST_ZONES, MOST_FLOWGATES)));
+    assert!(sizes.contains(&(1, 1, 0)));
     assert!(sizes.len() > 500, "{} sizes", sizes.len());
 }
 
@@ -297,7 +307,8 @@ fn generated_cases_reach_both_ends_of_every_range() {
 fn full_pairs_are_accepted_and_fit() {
     let mut random = Random::new(27);
     for index in 0..60 {
-        let counts = Counts { resources: 64, zones: 1 + index % 8, flowgates: index % 17 };
+        let (zones, flowgates) = (1 + index % MOST_ZONES, index % (MOST_FLOWGATES + 1));
+        let counts = Counts { resources: MOST_RESOURCES, zones, flowgates };
         let accepted = accepted(&full_pair(&mut random, counts));
         assert_charges_make_the_gap(&accepted);
     }

@@ -116,9 +116,9 @@ fn writers_refuse_lists_of_the_wrong_length_or_shape() {
         }
         let longer = [&numbers[..], &[0]].concat();
         assert_eq!(write(&longer, &mut out), Err(Refusal::Numbers));
-        for (index, count) in
-            [(0, 0), (0, 65), (0, -1), (0, i64::MAX), (1, 0), (1, 9), (2, -1), (2, 17)]
-        {
+        let wrong = [(0, 0), (0, 65), (0, -1), (0, i64::MAX), (1, 0), (1, 9)];
+        let wrong_flowgates = [-1, 13, 16, 17, 255, 256].map(|count| (2, count));
+        for (index, count) in wrong.into_iter().chain(wrong_flowgates) {
             let mut changed = numbers.clone();
             changed[index] = count;
             changed[4] = i64::MIN;

@@ -4,7 +4,7 @@ mod common;
 
 use nostwier_reference::damage::{every_damage, random_harm};
 use nostwier_reference::generate::{pair_of_counts, Pair};
-use nostwier_reference::layout::Counts;
+use nostwier_reference::layout::{Counts, MOST_FLOWGATES, MOST_RESOURCES, MOST_ZONES};
 use nostwier_reference::random::Random;
 use nostwier_reference::worked;
 use std::io::Write;
@@ -91,7 +91,7 @@ fn check_prints_the_worked_interval() {
 
 #[test]
 fn check_prints_a_line_per_resource_and_zone() {
-    let counts = Counts { resources: 64, zones: 8, flowgates: 16 };
+    let counts = Counts { resources: MOST_RESOURCES, zones: MOST_ZONES, flowgates: MOST_FLOWGATES };
     let pair = pair_of_counts(&mut Random::new(41), counts);
     let printed = text(&good(&["check"], &joined(&pair)));
     let lines: Vec<&str> = printed.lines().collect();
@@ -290,8 +290,13 @@ fn generate_tells_what_is_wrong() {
     assert_eq!(fault(&["generate", "x", "1", path], b""), wanted);
     let wanted = "COUNT is not a number from 0 to 4294967295";
     assert_eq!(fault(&["generate", "1", "-1", path], b""), wanted);
-    let wanted = "--size wants 1 to 64 resources, 1 to 8 zones, 0 to 16 flowgates";
-    assert_eq!(fault(&["generate", "1", "1", path, "--size", "65", "1", "0"], b""), wanted);
+    let wanted = "--size wants 1 to 64 resources, 1 to 8 zones, 0 to 12 flowgates";
+    for [resources, zones, flowgates] in
+        [["65", "1", "0"], ["64", "9", "12"], ["64", "8", "13"], ["1", "1", "16"], ["1", "1", "-1"]]
+    {
+        let size = ["generate", "1", "1", path, "--size", resources, zones, flowgates];
+        assert_eq!(fault(&size, b""), wanted, "{size:?}");
+    }
     let wanted = "--size wants three numbers";
     assert_eq!(fault(&["generate", "1", "1", path, "--size", "1"], b""), wanted);
     assert!(!directory.exists());

@@ -6,7 +6,9 @@ use common::{check, refused};
 use nostwier_reference::case::Flowgate;
 use nostwier_reference::damage::{every_damage, random_bytes, random_harm};
 use nostwier_reference::generate::{pair_of_counts, random_pair, varied_pair};
-use nostwier_reference::layout::{case_fields, certificate_fields, Counts};
+use nostwier_reference::layout::{
+    case_fields, certificate_fields, Counts, MOST_FLOWGATES, MOST_RESOURCES, MOST_ZONES,
+};
 use nostwier_reference::random::Random;
 use nostwier_reference::{
     charges, check_case, check_certificate, prices, program, read_case, read_certificate, worked,
@@ -28,7 +30,7 @@ fn generated_pairs_are_accepted() {
 fn every_damage_meets_its_refusal() {
     let mut random = Random::new(2);
     let mut met = BTreeSet::new();
-    let sizes = [(1, 1, 0), (1, 2, 1), (2, 3, 2), (4, 1, 1), (7, 8, 3), (3, 2, 16)];
+    let sizes = [(1, 1, 0), (1, 2, 1), (2, 3, 2), (4, 1, 1), (7, 8, 3), (3, 2, MOST_FLOWGATES)];
     for (resources, zones, flowgates) in sizes.into_iter().cycle().take(18) {
         let pair = varied_pair(&mut random, Counts { resources, zones, flowgates });
         for damaged in every_damage(&pair) {
@@ -62,7 +64,7 @@ fn damage_reaches_every_row_and_place() {
 
 #[test]
 fn the_largest_case_meets_its_refusals_too() {
-    let counts = Counts { resources: 64, zones: 8, flowgates: 16 };
+    let counts = Counts { resources: MOST_RESOURCES, zones: MOST_ZONES, flowgates: MOST_FLOWGATES };
     let pair = pair_of_counts(&mut Random::new(4), counts);
     assert!(check(&pair).is_ok());
     let damages = every_damage(&pair);
@@ -92,8 +94,10 @@ fn an_earlier_number_goes_before_a_later_one() {
     let mut longer = [&file[..], &[0]].concat();
     longer[3] += 1;
     assert_eq!(check_case(&longer), Err(Refusal::CaseSize));
-    longer[7] = 17;
-    assert_eq!(check_case(&longer), Err(Refusal::Counts));
+    for flowgates in [17, 16, 13] {
+        longer[7] = flowgates;
+        assert_eq!(check_case(&longer), Err(Refusal::Counts));
+    }
     longer[4] = 0;
     assert_eq!(check_case(&longer), Err(Refusal::CaseVersion));
     longer.push(0);
@@ -155,7 +159,7 @@ fn the_ends_of_every_range_are_inside() {
 
 #[test]
 fn sizes_are_those_of_the_paper() {
-    for (resources, zones, flowgates) in [(1, 1, 0), (64, 8, 16), (5, 3, 2)] {
+    for (resources, zones, flowgates) in [(1, 1, 0), (64, 8, 12), (5, 3, 2)] {
         let counts = Counts { resources, zones, flowgates };
         let case = case_fields(counts);
         let certificate = certificate_fields(counts);

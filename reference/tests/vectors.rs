@@ -1,11 +1,11 @@
 //! The vectors for a host, taken apart record by record.
 
-use nostwier_reference::layout::{self, Counts};
+use nostwier_reference::layout::{self, Counts, MOST_FLOWGATES, MOST_RESOURCES, MOST_ZONES};
 use nostwier_reference::{
     charges, check_case, check_certificate, prices, read_case, read_certificate, worked,
     write_case, write_certificate, Failure, Totals,
 };
-use std::collections::BTreeSet;
+use std::collections::{BTreeMap, BTreeSet};
 use std::path::PathBuf;
 use std::process::{Command, Output};
 
@@ -363,6 +363,19 @@ fn buffers_are_of_every_kind() {
 }
 
 #[test]
+fn a_host_has_room_for_every_input_and_buffer() {
+    const ROOM: usize = 65_536;
+    for operation in OPERATIONS {
+        for record in of_operation(operation, "4000") {
+            let Record { bytes, numbers, certificate, .. } = &record;
+            let lent = record.room * if record.operation < 7 { 8 } else { 1 };
+            let longest = [bytes.len(), 8 * numbers.len(), certificate.len(), lent];
+            assert!(longest.iter().all(|length| *length <= ROOM), "{operation}: {longest:?}");
+        }
+    }
+}
+
+#[test]
 fn lists_for_writers_are_damaged_in_every_way() {
     for (operation, fields) in [
         ("write-case", layout::case_fields as fn(Counts) -> Vec<layout::Field>),
@@ -418,8 +431,156 @@ fn cases_are_small_and_large() {
         .filter(|record| record.refusal == 0)
         .map(|record| record.bytes[5..8].to_vec())
         .collect();
-    assert!(accepted.contains(&vec![1, 1, 0]) && accepted.contains(&vec![64, 8, 16]));
+    let largest = [MOST_RESOURCES, MOST_ZONES, MOST_FLOWGATES].map(|most| most as u8);
+    assert!(accepted.contains(&vec![1, 1, 0]) && accepted.contains(&largest[..]));
     assert!(accepted.len() >= 30, "{} sizes", accepted.len());
+}
+
+type Fields = fn(Counts) -> Vec<layout::Field>;
+
+/// A list for a writer with 12 flowgates in place of its own, if it is as long
+/// as its counts say.
+fn list_of_twelve(numbers: &[i64], fields: Fields) -> Option<Vec<i64>> {
+    let [resources, zones, flowgates, rest @ ..] = numbers else { return None };
+    let own = Counts::of_any_flowgates(*resources, *zones, *flowgates)?;
+    let twelve = fields(Counts { flowgates: 12, ..own });
+    let rest = (rest.len() == fields(own).len())
+        .then(|| layout::with_flowgates(&fields(own), rest, &twelve))?;
+    Some([&[*resources, *zones, 12], &rest[..]].concat())
+}
+
+/// A file with 12 flowgates in place of its own, if its size is what its counts
+/// need.
+fn file_of_twelve(file: &[u8], fields: Fields) -> Option<Vec<u8>> {
+    let [resources, zones, flowgates] = layout::announced_numbers(file)?;
+    let own = Counts::of_any_flowgates(resources, zones, flowgates)?;
+    let twelve = Counts { flowgates: 12, ..own };
+    let (own, wanted) = (fields(own), fields(twelve));
+    (file.len() == layout::file_size(&own)).then(|| {
+        let numbers = layout::with_flowgates(&own, &layout::read_fields(file, &own), &wanted);
+        layout::write_fields(twelve, &numbers, &wanted)
+    })
+}
+
+/// The refusal of a call once its files are laid out with 12 flowgates, 0 for
+/// none; None if they are not whole. Its buffer is as long as can be needed.
+fn refusal_with_twelve(record: &Record) -> Option<u32> {
+    let case = || file_of_twelve(&record.bytes, layout::case_fields);
+    let certificate = || file_of_twelve(&record.certificate, layout::certificate_fields);
+    let alone = || file_of_twelve(&record.bytes, layout::certificate_fields);
+    let (mut out, mut bytes) = (vec![0; 20_000], vec![0; 50_000]);
+    let outcome = match record.operation {
+        1 => check_case(&case()?).map(|_| 0).map_err(Failure::from),
+        2 => check_certificate(&case()?, &certificate()?).map(|_| 0),
+        3 => prices(&case()?, &certificate()?, &mut out),
+        4 => charges(&case()?, &certificate()?, &mut out),
+        5 => read_case(&case()?, &mut out).map_err(Failure::from),
+        6 => read_certificate(&alone()?, &mut out).map_err(Failure::from),
+        7 => write_case(&list_of_twelve(&record.numbers, layout::case_fields)?, &mut bytes)
+            .map_err(Failure::from),
+        _ => write_certificate(
+            &list_of_twelve(&record.numbers, layout::certificate_fields)?,
+            &mut bytes,
+        )
+        .map_err(Failure::from),
+    };
+    match outcome {
+        Ok(_) => Some(0),
+        Err(Failure::Refused(refusal)) => Some(refusal.number()),
+        Err(failure) => panic!("{failure}"),
+    }
+}
+
+/// The flowgates that the first input of a call announces.
+fn first_flowgates(record: &Record) -> Option<i64> {
+    match record.operation {
+        7 | 8 => record.numbers.get(2).copied(),
+        _ => record.bytes.get(7).copied().map(i64::from),
+    }
+}
+
+/// Files that are right but for too many flowgates, and right ones of 12, so that
+/// a program that takes 13 or 16 of them, or refuses 12, is found by every
+/// operation (request 9).
+#[test]
+fn whole_files_of_twelve_flowgates_and_of_more_meet_every_operation() {
+    for operation in OPERATIONS {
+        let mut met: BTreeMap<i64, usize> = BTreeMap::new();
+        for record in of_operation(operation, "4000") {
+            let Some(flowgates) = first_flowgates(&record) else { continue };
+            let expected: &[u32] = if flowgates > 12 { &[3] } else { &[0, 15] };
+            let is_looked_for = [12, 13, 16, 17, 255].contains(&flowgates);
+            if is_looked_for
+                && expected.contains(&record.refusal)
+                && refusal_with_twelve(&record) == Some(0)
+            {
+                *met.entry(flowgates).or_default() += 1;
+            }
+        }
+        for (flowgates, least) in [(12, 40), (13, 20), (16, 20), (17, 4), (255, 4)] {
+            let times = met.get(&flowgates).copied().unwrap_or(0);
+            assert!(times >= least, "{operation}: {flowgates} flowgates, {met:?}");
+        }
+    }
+}
+
+/// 12, 13, 16, 17 and 255 announced by a file or list that is laid out for
+/// another number.
+#[test]
+fn counts_of_flowgates_are_harmed_at_every_telling_number() {
+    for operation in OPERATIONS {
+        let mut met = BTreeSet::new();
+        for record in of_operation(operation, "12000") {
+            if refusal_with_twelve(&record).is_none() {
+                met.extend(first_flowgates(&record));
+            }
+        }
+        for flowgates in [12, 13, 16, 17, 255] {
+            assert!(met.contains(&flowgates), "{operation}: {flowgates} flowgates");
+        }
+    }
+}
+
+/// A certificate of too many flowgates beside a valid case is refused by 10.
+#[test]
+fn whole_certificates_of_too_many_flowgates_meet_valid_cases() {
+    for operation in &OPERATIONS[1..4] {
+        let mut met = BTreeSet::new();
+        for record in of_operation(operation, "8000") {
+            let size = file_of_twelve(&record.certificate, layout::certificate_fields);
+            if record.refusal == 10 && size.is_some() && check_case(&record.bytes).is_ok() {
+                met.insert(record.certificate[7]);
+            }
+        }
+        for flowgates in [13, 16, 17, 255] {
+            assert!(met.contains(&flowgates), "{operation}: {flowgates} flowgates");
+        }
+    }
+}
+
+#[test]
+fn a_corpus_file_of_too_many_flowgates_is_read_and_written_too() {
+    for (flowgates, refusal) in [(12, 0), (13, 3), (16, 3), (17, 3)] {
+        let directory = scratch(&format!("vectors-flowgates-{flowgates}"));
+        let pair = worked::pair().with_flowgates(flowgates);
+        std::fs::write(directory.join("k.case"), pair.case_file()).expect("written");
+        std::fs::write(directory.join("k.cert"), pair.certificate_file()).expect("written");
+        let path = directory.to_str().expect("text");
+        for (operation, items) in [
+            ("read-case", 95 + 2 * flowgates),
+            ("read-certificate", 26 + flowgates),
+            ("write-case", 340 + 6 * flowgates),
+            ("write-certificate", 100 + 4 * flowgates),
+        ] {
+            let list = records(&["1", "0", "--corpus", path, operation]);
+            let rooms: Vec<usize> = list.iter().map(|record| record.room).collect();
+            assert_eq!(rooms, [items - 1, items, items + 7], "{operation}");
+            let refusals: Vec<u32> = list.iter().map(|record| record.refusal).collect();
+            let short = if refusal == 0 { 15 } else { refusal };
+            assert_eq!(refusals, [short, refusal, refusal], "{operation}");
+            assert_eq!(first_flowgates(&list[0]), Some(flowgates as i64), "{operation}");
+        }
+    }
 }
 
 #[test]

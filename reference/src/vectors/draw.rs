@@ -1,7 +1,7 @@
 //! Calls drawn at random from a few hundred pairs, and calls made of the pairs
 //! of the corpus.
 
-use super::harm::{harm_file, harm_numbers, Shape};
+use super::harm::{harm_file, harm_numbers, telling_shape, Shape, MOST_NUMBERS};
 use super::{Call, Operation};
 use crate::damage::{
     broken_rows, minima_above_maxima, quantities_above_their_bounds, reserve_of_tripped,
@@ -210,6 +210,21 @@ fn drawn_numbers(random: &mut Random, shape: &Shape, file: &[u8]) -> Vec<i64> {
     numbers
 }
 
+/// Lays out both files with the same telling number of flowgates, so that
+/// nothing but that number is wrong, or one file alone.
+fn take_telling_flowgates(random: &mut Random, base: &Base, files: &mut Files) {
+    let case_shape = telling_shape(random, &base.case_shape);
+    let certificate_shape = base.certificate_shape.of_flowgates(case_shape.counts.flowgates);
+    let which = random.between(0, 4);
+    if which < 4 {
+        files.case = base.case_shape.lay_out(&case_shape, &files.case);
+    }
+    if which != 3 {
+        let certificate = &mut files.certificate;
+        *certificate = base.certificate_shape.lay_out(&certificate_shape, certificate);
+    }
+}
+
 /// A pair that is accepted in two of five calls or so.
 fn drawn_pair(random: &mut Random, group: &[Base], base: &Base) -> Files {
     let mut files = started(random, base).clone();
@@ -217,7 +232,8 @@ fn drawn_pair(random: &mut Random, group: &[Base], base: &Base) -> Files {
         base.certificate_shape.set_prices(random, &mut files.certificate);
     }
     match random.between(0, 19) {
-        0..=12 => {}
+        0..=11 => {}
+        12 => take_telling_flowgates(random, base, &mut files),
         13..=15 => harm_file(random, &base.certificate_shape, &mut files.certificate),
         16 => {
             harm_file(random, &base.certificate_shape, &mut files.certificate);
@@ -245,21 +261,30 @@ fn drawn_room(random: &mut Random, needed: usize) -> usize {
     }
 }
 
+/// The counts of a file, too many flowgates among them: a buffer has the room
+/// that an answer would need, so that it is not refused for want of room.
+fn counts_of(file: &[u8]) -> Option<Counts> {
+    let [resources, zones, flowgates] = layout::announced_numbers(file)?;
+    Counts::of_any_flowgates(resources, zones, flowgates)
+}
+
 fn prices_of(case: &[u8]) -> usize {
-    layout::announced_counts(case).map_or(0, Counts::price_count)
+    counts_of(case).map_or(0, Counts::price_count)
 }
 
 fn charges_of(case: &[u8]) -> usize {
-    layout::announced_counts(case).map_or(0, Counts::charge_count)
+    counts_of(case).map_or(0, Counts::charge_count)
 }
 
 fn numbers_of(file: &[u8], fields: fn(Counts) -> Vec<layout::Field>) -> usize {
-    layout::announced_counts(file).map_or(0, |counts| 3 + fields(counts).len())
+    counts_of(file).map_or(0, |counts| 3 + fields(counts).len()).min(MOST_NUMBERS)
 }
 
 fn bytes_of(numbers: &[i64], fields: fn(Counts) -> Vec<layout::Field>) -> usize {
     let counts = match numbers {
-        [resources, zones, flowgates, ..] => Counts::within_range(*resources, *zones, *flowgates),
+        [resources, zones, flowgates, ..] => {
+            Counts::of_any_flowgates(*resources, *zones, *flowgates)
+        }
         _ => None,
     };
     counts.map_or(0, |counts| layout::file_size(&fields(counts)))
@@ -267,8 +292,9 @@ fn bytes_of(numbers: &[i64], fields: fn(Counts) -> Vec<layout::Field>) -> usize 
 
 /// The calls of an operation with one pair of files, as they stand. Where a
 /// buffer is lent, it is once too short by one item, once long enough and once
-/// longer. A file whose size is not what its counts need has no numbers to be
-/// written.
+/// longer. A file of too many flowgates has its numbers written as well. One
+/// whose size is not what its counts need has no numbers to be written, nor has
+/// one with more than a host has room for.
 pub fn corpus_calls(operation: Operation, files: &Files) -> Vec<Call> {
     let Files { case, certificate } = files.clone();
     match operation {
@@ -310,6 +336,7 @@ fn rooms(needed: usize) -> [usize; 3] {
 }
 
 fn numbers_in(file: &[u8], fields: fn(Counts) -> Vec<layout::Field>) -> Option<Vec<i64>> {
-    let shape = Shape::new(layout::announced_counts(file)?, fields);
-    (file.len() == layout::file_size(&shape.fields)).then(|| shape.numbers(file))
+    let shape = Shape::new(counts_of(file)?, fields);
+    let is_whole = file.len() == layout::file_size(&shape.fields);
+    (is_whole && numbers_of(file, fields) < MOST_NUMBERS).then(|| shape.numbers(file))
 }

@@ -1,7 +1,7 @@
 //! Harm to one file or one list of numbers, quick enough to be done a hundred
 //! thousand times. What answer it must meet is for the reference to say.
 
-use crate::damage::random_bytes;
+use crate::damage::{random_bytes, TOO_MANY_FLOWGATES};
 use crate::layout::{
     self, Counts, Field, HEAD, MOST_FLOWGATES, MOST_RESOURCES, MOST_ZONES, VERSION,
 };
@@ -9,6 +9,10 @@ use crate::random::Random;
 
 /// No file is made longer than this.
 const LONGEST: usize = 50_000;
+
+/// No list of numbers is made longer than this, nor a buffer that is to take
+/// one: a host has room for 65,536 bytes of either.
+pub const MOST_NUMBERS: usize = 8_000;
 
 /// The fields of a file after its counts, and where each begins.
 #[derive(Clone, Debug)]
@@ -36,6 +40,19 @@ impl Shape {
         let counts = self.counts;
         let counts = [counts.resources, counts.zones, counts.flowgates].map(|count| count as i64);
         [&counts[..], &layout::read_fields(file, &self.fields)].concat()
+    }
+
+    /// The shape of a file with another number of flowgates.
+    pub fn of_flowgates(&self, flowgates: usize) -> Shape {
+        Shape::new(Counts { flowgates, ..self.counts }, self.of)
+    }
+
+    /// A file of this shape laid out with the flowgates of another, its fields
+    /// otherwise as they are.
+    pub fn lay_out(&self, wanted: &Shape, file: &[u8]) -> Vec<u8> {
+        let numbers = layout::read_fields(file, &self.fields);
+        let numbers = layout::with_flowgates(&self.fields, &numbers, &wanted.fields);
+        layout::write_fields(wanted.counts, &numbers, &wanted.fields)
     }
 
     /// Sets one field of a file, unless the file ends before it.
@@ -81,14 +98,15 @@ fn telling_number(random: &mut Random, field: &Field) -> i64 {
 /// Harms a file in one way.
 pub fn harm_file(random: &mut Random, shape: &Shape, file: &mut Vec<u8>) {
     match random.between(0, 99) {
-        0..=51 => harm_field(random, shape, file),
-        52..=59 => harm_bytes(random, file),
-        60..=67 => cut(random, file),
-        68..=72 => announce_another_length(random, file),
-        73..=78 => lengthen(random, file),
-        79..=83 => set_byte(file, 4, random.pick(&[0, 2, 3, 129, 255])),
-        84..=91 => harm_count(random, file),
-        92..=95 => take_another_shape(random, shape, file),
+        0..=49 => harm_field(random, shape, file),
+        50..=56 => harm_bytes(random, file),
+        57..=63 => cut(random, file),
+        64..=67 => announce_another_length(random, file),
+        68..=72 => lengthen(random, file),
+        73..=76 => set_byte(file, 4, random.pick(&[0, 2, 3, 129, 255])),
+        77..=85 => harm_count(random, file),
+        86..=92 => take_telling_flowgates(random, shape, file),
+        93..=95 => take_another_shape(random, shape, file),
         96 | 97 => *file = random_bytes(random),
         98 => *file = random_file(random, shape),
         _ => file.clear(),
@@ -168,18 +186,48 @@ fn lengthen(random: &mut Random, file: &mut Vec<u8>) {
 /// One of the three counts out of its range, at an end of it, or off by one.
 fn harm_count(random: &mut Random, file: &mut [u8]) {
     let which = random.index(3);
-    let most = [MOST_RESOURCES, MOST_ZONES, MOST_FLOWGATES][which] as u8;
     let at = 5 + which;
     let now = file.get(at).copied().unwrap_or(0);
     let count = match random.between(0, 5) {
         0 => 0,
-        1 => most + 1,
-        2 => most,
-        3 => 255,
+        1..=3 => telling_count(random, which) as u8,
         4 => now.wrapping_sub(1),
         _ => now.wrapping_add(1),
     };
     set_byte(file, at, count);
+}
+
+/// The largest of a count's range, or one past it; of flowgates, now and then
+/// one that an earlier range had.
+fn telling_count(random: &mut Random, which: usize) -> usize {
+    let past = u8::MAX as usize;
+    match which {
+        0 => random.pick(&[MOST_RESOURCES, MOST_RESOURCES + 1, past]),
+        1 => random.pick(&[MOST_ZONES, MOST_ZONES + 1, past]),
+        _ => telling_flowgates(random),
+    }
+}
+
+/// As many flowgates as are allowed, or too many.
+fn telling_flowgates(random: &mut Random) -> usize {
+    let [next, earlier, past_earlier, past] = TOO_MANY_FLOWGATES;
+    let most = MOST_FLOWGATES;
+    random.pick(&[most, most, next, next, next, earlier, earlier, earlier, past_earlier, past])
+}
+
+/// The shape with a telling number of flowgates: one that is refused for that
+/// number alone, or none too many.
+pub fn telling_shape(random: &mut Random, shape: &Shape) -> Shape {
+    let wanted = shape.of_flowgates(telling_flowgates(random));
+    if 3 + wanted.fields.len() > MOST_NUMBERS {
+        return shape.of_flowgates(MOST_FLOWGATES + 1);
+    }
+    wanted
+}
+
+/// The file laid out with a telling number of flowgates.
+fn take_telling_flowgates(random: &mut Random, shape: &Shape, file: &mut Vec<u8>) {
+    *file = shape.lay_out(&telling_shape(random, shape), file);
 }
 
 fn any_counts(random: &mut Random) -> Counts {
@@ -219,33 +267,49 @@ fn random_file(random: &mut Random, shape: &Shape) -> Vec<u8> {
 /// Harms a list of numbers for a writer in one way.
 pub fn harm_numbers(random: &mut Random, shape: &Shape, numbers: &mut Vec<i64>) {
     match random.between(0, 99) {
-        0..=64 => {
+        0..=60 => {
             let index = random.index(shape.fields.len());
             let number = telling_number_of_64_bits(random, &shape.fields[index]);
             if let Some(place) = numbers.get_mut(3 + index) {
                 *place = number;
             }
         }
-        65..=70 => {
+        61..=65 => {
             numbers.pop();
         }
-        71..=76 => numbers.push(random.pick(&[0, 1, -1, i64::MAX])),
-        77..=80 => numbers.truncate(random.index(numbers.len())),
-        81..=84 => numbers.truncate(random.index(4)),
-        85..=94 => harm_count_number(random, numbers),
-        95..=98 => {
+        66..=70 => numbers.push(random.pick(&[0, 1, -1, i64::MAX])),
+        71..=74 => numbers.truncate(random.index(numbers.len())),
+        75..=78 => numbers.truncate(random.index(4)),
+        79..=88 => harm_count_number(random, numbers),
+        89..=95 => list_telling_flowgates(random, shape, numbers),
+        96..=98 => {
             let counts = any_counts(random);
-            let its_counts = [counts.resources, counts.zones, counts.flowgates];
             numbers.resize(3 + (shape.of)(counts).len(), 0);
-            for (place, count) in numbers.iter_mut().zip(its_counts) {
-                *place = count as i64;
-            }
+            put_count_numbers(numbers, counts);
         }
         _ => {
             let length = random.between(0, 200);
             *numbers = (0..length).map(|_| random.bits() as i64).collect();
         }
     }
+}
+
+fn put_count_numbers(numbers: &mut [i64], counts: Counts) {
+    let counts = [counts.resources, counts.zones, counts.flowgates];
+    for (place, count) in numbers.iter_mut().zip(counts) {
+        *place = count as i64;
+    }
+}
+
+/// The list of a file with a telling number of flowgates. One that is too short
+/// for its counts is filled up with 0.
+fn list_telling_flowgates(random: &mut Random, shape: &Shape, numbers: &mut Vec<i64>) {
+    let wanted = telling_shape(random, shape);
+    numbers.resize(3 + shape.fields.len(), 0);
+    let fields = layout::with_flowgates(&shape.fields, &numbers[3..], &wanted.fields);
+    numbers.truncate(3);
+    numbers.extend(fields);
+    put_count_numbers(numbers, wanted.counts);
 }
 
 /// As for a file, and numbers past what the field's bytes can hold.
@@ -265,13 +329,11 @@ fn telling_number_of_64_bits(random: &mut Random, field: &Field) -> i64 {
 
 fn harm_count_number(random: &mut Random, numbers: &mut [i64]) {
     let which = random.index(3);
-    let most = [MOST_RESOURCES, MOST_ZONES, MOST_FLOWGATES][which] as i64;
     if let Some(count) = numbers.get_mut(which) {
         *count = match random.between(0, 9) {
             0 => 0,
             1 => -1,
-            2 => most,
-            3 => most + 1,
+            2 | 3 => telling_count(random, which) as i64,
             4 => count.wrapping_sub(1),
             5 => count.wrapping_add(1),
             6 => count.wrapping_add(256),
