@@ -23,7 +23,7 @@
 
 /* The version. Within one first number, the interface that is there stays as it is; the second number rises where a rule of the
  * market changes, and with it an answer. */
-#define NOSTWIER_VERSION "1.2.0"
+#define NOSTWIER_VERSION "1.3.0"
 
 /* ---- Units. Power is in kW; prices of offers, curves and flowgates in cents per MWh, all other prices in thousandths of a
  * cent per MWh. Cost, bound, gap and charges are in grains, a thousandth of a cent per MWh times one kW: so many grains are
@@ -34,7 +34,7 @@
  * from 0; they are to be relied on once the file is accepted. */
 #define NOSTWIER_MOST_RESOURCES 64
 #define NOSTWIER_MOST_ZONES 8
-#define NOSTWIER_MOST_FLOWGATES 16
+#define NOSTWIER_MOST_FLOWGATES 12
 
 /* Bytes of the two files. */
 #define NOSTWIER_CASE_BYTES(r, z, f) (170 + 16 * (size_t)(z) + 154 * (size_t)(r) + (size_t)(f) * (4 + 2 * (size_t)(r)))

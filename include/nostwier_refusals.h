@@ -7,6 +7,10 @@
 /* The last refusal. */
 #define NOSTWIER_REFUSALS 17
 
+/* A number that a macro stands for, as text. */
+#define NOSTWIER_DIGITS(number) #number
+#define NOSTWIER_TEXT(macro) NOSTWIER_DIGITS(macro)
+
 /* What a refusal, by its number, says; of a number that is none, 'no such refusal'. */
 static inline const char *nostwier_refusal_text(uint32_t refusal)
 {
@@ -66,7 +70,8 @@ static inline const char *nostwier_refusal_advice(uint32_t refusal)
     case NOSTWIER_CERTIFICATE_VERSION:
         return "write the file anew in version 1, the fifth byte";
     case NOSTWIER_COUNTS:
-        return "keep to 1 to 64 resources, 1 to 8 zones and 0 to 16 flowgates, the sixth to eighth byte";
+        return "keep to 1 to " NOSTWIER_TEXT(NOSTWIER_MOST_RESOURCES) " resources, 1 to " NOSTWIER_TEXT(NOSTWIER_MOST_ZONES)
+               " zones and 0 to " NOSTWIER_TEXT(NOSTWIER_MOST_FLOWGATES) " flowgates, the sixth to eighth byte";
     case NOSTWIER_CASE_SIZE:
         return "look for a record that is missing or too many: 170 bytes, 16 a zone, 154 a resource, 4 and 2 a resource for "
                "each flowgate";

@@ -6,7 +6,7 @@ import os
 from pathlib import Path
 from typing import NamedTuple
 
-VERSION = "1.2.0"  # NOSTWIER_VERSION of nostwier.h
+VERSION = "1.3.0"  # NOSTWIER_VERSION of nostwier.h
 VARIABLE = "NOSTWIER_LIBRARY"
 SONAME = "libnostwier.so.1"
 BUILD_TREE = Path(__file__).resolve().parents[2] / "target" / "lib" / SONAME
@@ -66,7 +66,7 @@ class Counts(NamedTuple):
         return 21 + 4 * self.zones + self.flowgates + 19 * self.resources
 
 
-LEAST, MOST = Counts(1, 1, 0), Counts(64, 8, 16)
+LEAST, MOST = Counts(1, 1, 0), Counts(64, 8, 12)
 
 
 class ResultRecord(ctypes.Structure):

@@ -1,5 +1,7 @@
 """What the refusals mean, and what to do about each. The texts are those of include/nostwier_refusals.h."""
 
+from .library import MOST
+
 MEANING = {
     1: "the case is under 170 bytes, or not as long as its first four bytes say",
     2: "the case is of a version other than 1",
@@ -29,7 +31,8 @@ _VERSION = "write the file anew in version 1, the fifth byte"
 ADVICE = {
     1: _LENGTH,
     2: _VERSION,
-    3: "keep to 1 to 64 resources, 1 to 8 zones and 0 to 16 flowgates, the sixth to eighth byte",
+    3: f"keep to 1 to {MOST.resources} resources, 1 to {MOST.zones} zones and 0 to {MOST.flowgates} flowgates, the sixth to eighth "
+       "byte",
     4: "look for a record that is missing or too many: 170 bytes, 16 a zone, 154 a resource, 4 and 2 a resource for each "
        "flowgate",
     5: "look for a wrong unit (kW, cents per MWh, thousandths) or a field out of order",

@@ -22,7 +22,7 @@ from nostwier import Case, Certificate, Counts, Refused, library
 TYPES = {"u8": (1, False), "u16": (2, False), "u32": (4, False), "i16": (2, True), "i32": (4, True)}
 STEPS = {"curves": 4, "energy_steps": 10}
 CURVES = ["operating", "regulating_plus_spinning", "regulating", "short_term"]
-COUNTS = [Counts(1, 1, 0), Counts(3, 2, 2), Counts(2, 8, 1), Counts(5, 1, 16), Counts(64, 8, 16)]
+COUNTS = [Counts(1, 1, 0), Counts(3, 2, 2), Counts(2, 8, 1), Counts(5, 1, library.MOST.flowgates), library.MOST]
 SMALL = Counts(3, 2, 2)
 
 

@@ -164,7 +164,7 @@ def answers():
     case, certificate = (call(file) for call, file in
                          zip((nostwier.read_case, nostwier.read_certificate), pairs["small"]))
     for what, call, good in (("case", nostwier.write_case, case), ("certificate", nostwier.write_certificate, certificate)):
-        lists = [[], [1], [1, 1], [1, 1, 0], [0, 1, 0], [65, 1, 0], [1, 9, 0], [1, 1, 17], [-1, 1, 0], [2**40, 1, 0], good[:-1],
+        lists = [[], [1], [1, 1], [1, 1, 0], [0, 1, 0], [65, 1, 0], [1, 9, 0], [1, 1, 13], [-1, 1, 0], [2**40, 1, 0], good[:-1],
                  good + [0], good]
         # Numbers that no 64 bits hold are refused as the ends of those are: 16, but 3 before it.
         for trial, number in (([65, 1, 0, 2**70], 3), ([2**70, 1, 0], 3), ([1, -2**70, 0], 3), ([1, 1, 0, 2**70], 16),
@@ -457,6 +457,7 @@ def ranges():
         (16, "resources[0].contingency_price of resource 1 is -210 cents per MWh, and not 0 to 400,000", negative.format("price"),
          lambda c: setattr(c.resources[0], "contingency_price", -210)),
         (3, "the number of zones is 9, and not 1 to 8", "", lambda c: setattr(c, "zones", c.zones[:1] * 9)),
+        (3, "the number of flowgates is 13, and not 0 to 12", "", lambda c: setattr(c, "flowgates", c.flowgates[:1] * 13)),
         (5, "resources[2].ramp_rate of resource 3 is 30,000,000 kW a minute, and not 0 to 400,000",
          "Is the unit right? Ramps are in kW a minute: is a number here in MW, or for five minutes or an hour?",
          lambda c: setattr(c.resources[2], "ramp_rate", 30_000_000)),
@@ -711,7 +712,7 @@ def commands():
         with open(made, "wb") as huge:
             huge.truncate(16 * 1024 * 1024 + 1)
         same("a huge file", run("cite", made, certificate), (
-            1, "", f"nostwier: '{made}' is above 16,777,216 bytes, and no case or certificate is above 12,266: look whether it is another file\n"))
+            1, "", f"nostwier: '{made}' is above 16,777,216 bytes, and no case or certificate is above 11,738: look whether it is another file\n"))
 
         # Names of another source are refused; those of the source serve for a damaged file too.
         data = json.loads((EXAMPLE / "small.json").read_text(encoding="utf-8"))
