@@ -32,6 +32,8 @@ enum {
     MOST_ROUNDS = 4000,
     ROOM = 2048, /* numbers of a buffer */
     ZONES = 8,   /* of every case that is timed */
+    MOST = NOSTWIER_MOST_FLOWGATES,
+    EARLIER = 16, /* as many were the most up to version 1.2.0 */
     TIMED = 20,  /* pairs of a size, at most */
     DAY = 288,   /* intervals of five minutes */
     DAYS = 200
@@ -372,6 +374,43 @@ static void ratio(double a, double b)
     printf(" %.2f |", a / b);
 }
 
+/* ---- Times beside those of earlier versions, which were taken with 16 flowgates. */
+
+/* A pair with its first flowgates alone. It is accepted too, since it has fewer rows, and differs in nothing else. */
+static input with_flowgates(const input *in, uint8_t kept)
+{
+    size_t r = in->c[5], z = in->c[6], f = in->c[7], before = NOSTWIER_CERTIFICATE_BYTES(0, z, kept);
+    input out = {.cn = NOSTWIER_CASE_BYTES(r, z, kept), .qn = NOSTWIER_CERTIFICATE_BYTES(r, z, kept)};
+    out.c = malloc(out.cn);
+    out.q = malloc(out.qn);
+    if (out.c == NULL || out.q == NULL)
+        die("no memory");
+    memcpy(out.c, in->c, out.cn);
+    memcpy(out.q, in->q, before);
+    memcpy(out.q + before, in->q + before + 4 * (f - kept), out.qn - before);
+    for (int i = 0; i < 4; i++) {
+        out.c[i] = (uint8_t)((out.cn - 4) >> (24 - 8 * i));
+        out.q[i] = (uint8_t)((out.qn - 4) >> (24 - 8 * i));
+    }
+    out.c[7] = out.q[7] = kept;
+    if (nostwier_check_certificate(out.c, out.cn, out.q, out.qn).refusal != 0)
+        die("%s is refused with %d of its flowgates", in->name, kept);
+    return out;
+}
+
+/* The library's work with 16 flowgates as a multiple of that with 12: each more would add what the last ones of the 12 add (the
+ * first adds more, for a loop is begun with it). */
+static double work_of_earlier(const inputs *all, enum call call)
+{
+    enum { KEPT = 4 };
+    static inputs fewer;
+    for (fewer.count = 0; fewer.count < all->count; fewer.count++)
+        fewer.of[fewer.count] = with_flowgates(&all->of[fewer.count], KEPT);
+    round_times two = in_turns((side){runs[LIBRARY][call], all}, (side){runs[LIBRARY][call], &fewer}, single_calls);
+    give_back(&fewer);
+    return 1 + (two.of[0] - two.of[1]) / (MOST - KEPT) * (EARLIER - MOST) / two.of[0];
+}
+
 /* ---- Solvers. Only the solution of a programme that has been read is timed. */
 
 typedef struct {
@@ -540,9 +579,12 @@ static int succeeded(enum file writes, const input *in)
 
 /* ---- The tables. */
 
-static const int all_r[] = {1, 2, 4, 8, 16, 32, 64}, all_f[] = {0, 1, 2, 4, 8, 16};
-static const int some_r[] = {1, 8, 64}, some_f[] = {0, 16};
+static const int all_r[] = {1, 2, 4, 8, 16, 32, 64}, all_f[] = {0, 1, 2, 4, 8, MOST};
+static const int some_r[] = {1, 8, 64}, some_f[] = {0, MOST};
 #define LENGTH(list) ((int)(sizeof(list) / sizeof *(list)))
+#define DIGITS(number) #number
+#define TEXT(macro) DIGITS(macro)
+#define MOST_F "F " TEXT(NOSTWIER_MOST_FLOWGATES)
 
 static int missed;
 
@@ -570,7 +612,7 @@ static int equal_answers(const char *folder)
     give_back(&all);
     for (int i = 0; i < LENGTH(all_r); i++)
         for (int j = 0; j < LENGTH(all_f); j++)
-            if (all_r[i] == 64 || all_f[j] == 16 || (all_f[j] == 0 && (all_r[i] == 1 || all_r[i] == 8))) {
+            if (all_r[i] == 64 || all_f[j] == MOST || (all_f[j] == 0 && (all_r[i] == 1 || all_r[i] == 8))) {
                 take_size(&all, folder, all_r[i], all_f[j], DAY);
                 same &= same_answers(&all);
                 give_back(&all);
@@ -583,8 +625,9 @@ static void table_of_calls(const char *folder)
     static inputs all;
     times of[MAKERS];
     printf("Times are in microseconds: median / 99th percentile of single calls. Z is %d.\n\n", ZONES);
-    printf("| call | R | F | library | baseline in C | reference | library : baseline | reference : library |\n");
-    printf("|---|---|---|---|---|---|---|---|\n");
+    printf("| call | R | F | library | baseline in C | reference | library : baseline | reference : library | library, as with F %d |\n",
+           EARLIER);
+    printf("|---|---|---|---|---|---|---|---|---|\n");
     for (int call = CHECK; call < CALLS; call++)
         for (int i = 0; i < LENGTH(some_r); i++)
             for (int j = 0; j < LENGTH(some_f); j++) {
@@ -595,12 +638,17 @@ static void table_of_calls(const char *folder)
                     cell(of[maker]);
                 ratio(of[LIBRARY].median, of[BASELINE].median);
                 ratio(of[REFERENCE].median, of[LIBRARY].median);
-                putchar('\n');
+                if (some_f[j] == MOST) {
+                    double work = work_of_earlier(&all, call);
+                    printf(" %.2f (%.3f) |\n", work * of[LIBRARY].median / 1e3, work);
+                } else {
+                    printf(" - |\n");
+                }
                 give_back(&all);
             }
 }
 
-/* Returns the times of the check and of GLPK at R 64, F 16. */
+/* Returns the times of the check and of GLPK at R 64 with the most flowgates. */
 static round_times table_of_solvers(const char *folder)
 {
     static inputs all;
@@ -629,9 +677,9 @@ static void table_of_growth(const char *folder)
 {
     static inputs all;
     times of[MAKERS];
-    printf("\nGrowth of the check with R (F 16), and with F (R 64):\n\n| R | F | library | baseline in C |\n|---|---|---|---|\n");
+    printf("\nGrowth of the check with R (F %d), and with F (R 64):\n\n| R | F | library | baseline in C |\n|---|---|---|---|\n", MOST);
     for (int i = 0; i < LENGTH(all_r) + LENGTH(all_f) - 1; i++) {
-        int r = i < LENGTH(all_r) ? all_r[i] : 64, f = i < LENGTH(all_r) ? 16 : all_f[i - LENGTH(all_r)];
+        int r = i < LENGTH(all_r) ? all_r[i] : 64, f = i < LENGTH(all_r) ? MOST : all_f[i - LENGTH(all_r)];
         take_size(&all, folder, r, f, TIMED);
         measure(&all, CHECK, REFERENCE, 5e8, of);
         printf("| %d | %d |", r, f);
@@ -646,7 +694,7 @@ static void table_of_growth(const char *folder)
 static round_times table_of_days(const inputs *day)
 {
     round_times check = {{0, 0}};
-    printf("\n%d intervals in a row (R 64, F 16), in milliseconds, one of %d days:\n\n", DAY, DAYS);
+    printf("\n%d intervals in a row (R 64, F %d), in milliseconds, one of %d days:\n\n", DAY, MOST, DAYS);
     printf("| call | library | baseline in C | library : baseline |\n|---|---|---|---|\n");
     for (int call = CHECK; call < CALLS; call++) {
         round_times one = to_baseline(day, call, in_a_row);
@@ -672,7 +720,7 @@ static size_t table_of_stack(const inputs *day)
                 die("%s: %s does not succeed", day->of[i].name, eight[k].name);
             deepest[k] = used > deepest[k] ? used : deepest[k];
         }
-    printf("\nStack of each of the eight calls (R 64, F 16), in bytes, deepest on %d pairs:\n\n| call | bytes |\n|---|---|\n", TIMED);
+    printf("\nStack of each of the eight calls (R 64, F %d), in bytes, deepest on %d pairs:\n\n| call | bytes |\n|---|---|\n", MOST, TIMED);
     for (int k = 0; k < LENGTH(eight); k++) {
         printf("| %s | %zu |\n", eight[k].name, deepest[k]);
         most = deepest[k] > most ? deepest[k] : most;
@@ -692,11 +740,11 @@ int main(int count, char **arguments)
     printf("Before timing, %lu answers of library, baseline and reference were equal; %lu certificates of them are accepted, "
            "the others refused.\n\n", compared, accepted);
 
-    take_size(&day, folder, 64, 16, DAY);
+    take_size(&day, folder, 64, MOST, DAY);
     if (day.count < DAY)
-        die("fewer than %d pairs of R 64, F 16", DAY);
-    take_size(&all, folder, 64, 16, TIMED);
-    take_size(&small, folder, 16, 16, TIMED);
+        die("fewer than %d pairs of R 64, F %d", DAY, MOST);
+    take_size(&all, folder, 64, MOST, TIMED);
+    take_size(&small, folder, 16, MOST, TIMED);
     table_of_calls(folder);
     round_times glpk = table_of_solvers(folder);
     table_of_growth(folder);
@@ -704,12 +752,12 @@ int main(int count, char **arguments)
     size_t deepest = table_of_stack(&day);
 
     printf("\n| bar | library | beside it | ratio | |\n|---|---|---|---|---|\n");
-    bar("check at R 64, F 16", 1.5, "the baseline (aim 1.0)", to_baseline(&all, CHECK, single_calls), 1e3, "µs");
-    bar("check, 288 intervals in a row (R 64, F 16),", 1.55, "the baseline", row, 1e6, "ms");
-    bar("charges at R 64, F 16", 1.45, "the baseline", to_baseline(&all, CHARGES, single_calls), 1e3, "µs");
-    bar("check at R 64", 5, "that at R 16 (F 16)",
+    bar("check at R 64, " MOST_F, 1.5, "the baseline (aim 1.0)", to_baseline(&all, CHECK, single_calls), 1e3, "µs");
+    bar("check, 288 intervals in a row (R 64, " MOST_F "),", 1.55, "the baseline", row, 1e6, "ms");
+    bar("charges at R 64, " MOST_F, 1.45, "the baseline", to_baseline(&all, CHARGES, single_calls), 1e3, "µs");
+    bar("check at R 64", 5, "that at R 16 (" MOST_F ")",
         in_turns((side){nostwier_checks, &all}, (side){nostwier_checks, &small}, single_calls), 1e3, "µs");
-    printf("| check at R 64, F 16 at least 200 times faster than GLPK | %.2f µs | %.2f µs | %.0f | %s |\n", glpk.of[0] / 1e3,
+    printf("| check at R 64, " MOST_F " at least 200 times faster than GLPK | %.2f µs | %.2f µs | %.0f | %s |\n", glpk.of[0] / 1e3,
            glpk.of[1] / 1e3, glpk.of[1] / glpk.of[0], verdict(glpk.of[1] >= 200 * glpk.of[0]));
     printf("| less than 64 KiB of stack, deepest of the eight calls | %zu bytes | - | - | %s |\n", deepest, verdict(deepest < 65536));
     give_back(&small);

@@ -35,13 +35,29 @@ static const uint8_t *misread(const uint8_t *c, size_t cn)
     return seen;
 }
 
+/* A file with one flowgate more than there may be, as one that has passed that test: without the last one's bytes, which end
+ * there. Returns how many bytes are left; all, if it is no such file. */
+static size_t one_flowgate_fewer(uint8_t *file, size_t length, size_t end, size_t last)
+{
+    if (length < 8 || file[7] != NOSTWIER_MOST_FLOWGATES + 1 || end > length || last > end)
+        return length;
+    file[7]--;
+    memmove(file + end - last, file + end, length - end);
+    for (int i = 0; i < 4; i++)
+        file[i] = (uint8_t)((length - last - 4) >> (24 - 8 * i));
+    return length - last;
+}
+
 uint32_t __wrap_nostwier_check_case(const uint8_t *c, size_t cn)
 {
     static uint8_t seen[MOST];
-    if (!fault("case:last-byte-unread") || cn == 0 || cn > MOST)
+    if (cn == 0 || cn > MOST)
         return __real_nostwier_check_case(c, cn);
     memcpy(seen, c, cn);
-    seen[cn - 1] = 0;
+    if (fault("case:last-byte-unread"))
+        seen[cn - 1] = 0;
+    if (fault("case:one-flowgate-too-many-is-taken") && cn >= HEAD)
+        cn = one_flowgate_fewer(seen, cn, NOSTWIER_CASE_BYTES(c[5], c[6], c[7]), 4 + 2 * (size_t)c[5]);
     return __real_nostwier_check_case(seen, cn);
 }
 
@@ -82,6 +98,12 @@ nostwier_count __wrap_nostwier_read_case(const uint8_t *file, size_t length, int
 
 nostwier_count __wrap_nostwier_read_certificate(const uint8_t *file, size_t length, int64_t *out, size_t n)
 {
+    static uint8_t seen[MOST];
+    if (fault("read-certificate:one-flowgate-too-many-is-taken") && length >= 8 && length <= MOST) {
+        size_t end = NOSTWIER_CERTIFICATE_BYTES(0, file[6], file[7]);
+        memcpy(seen, file, length);
+        return __real_nostwier_read_certificate(seen, one_flowgate_fewer(seen, length, end, 4), out, n);
+    }
     nostwier_count count = __real_nostwier_read_certificate(file, length, out, n);
     if (fault("read-certificate:price-of-row-1-has-no-sign") && count.refusal == 0 && out[7] < 0)
         out[7] += (int64_t)1 << 32;
