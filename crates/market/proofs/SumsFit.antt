@@ -15,11 +15,11 @@ use Rattle.market.specs.UpperBounds.{Schedule}
 use Rattle.market.specs.Rows.{Row, Balance, Market, Zone, rows, Bounded}
 use Rattle.market.specs.Certificate.{Prices, certificateOf}
 use Rattle.market.specs.Cost.{priced, quantityOf}
-use Rattle.market.specs.Charges.{rowCharge, pricedCharge, charges}
+use Rattle.market.specs.Charges.{gap, rowCharge, pricedCharge, charges}
 use Rattle.market.specs.Prices.{zonePrices}
 use Rattle.market.specs.Fits.{Fits64, TermsFit, SumsFit, SumsAtMost, SumsFitTheorem}
 use Rattle.market.proofs.Families.{quantity-of, each-row, each-priced}
-use Rattle.market.specs.Sizes.{mostPrice}
+use Rattle.market.specs.Sizes.{mostPrice, mostGap}
 use Rattle.market.proofs.Ranges.{CaseRanges, PriceRanges, valid-ranges, price-ranges, bounded}
 use Rattle.market.proofs.RowSizes.{right-size}
 use Rattle.market.proofs.AmountSizes.{energy-widths, curve-widths}
@@ -49,6 +49,9 @@ module _ (c : Case) (h : CaseRanges c) (y : Prices) (p : PriceRanges c y) (x : S
   abbrev RampsFit : Reserve → Type 0
   RampsFit p = Each (λ i. Fits64 (pos (c .resource i .rampRate * c .minutes p * 1000))) (upto (c .resources))
 
+  gap-size : Size (gap c x y) mostGap
+  gap-size = size-sub (cost-size c h x b) (bound-size c h y p)
+
   all-fit : SumsFit c x y
   all-fit =
       record {
@@ -69,7 +72,7 @@ module _ (c : Case) (h : CaseRanges c) (y : Prices) (p : PriceRanges c y) (x : S
         product-terms = omega (arith, products-most c h y p);
         bound-terms = omega (arith, row-terms-most c h y p, lowest-most c h y p);
         bound-fits = omega (arith, bound-size c h y p);
-        gap-fits = omega (arith, size-sub (cost-size c h x b) (bound-size c h y p));
+        gap-fits = omega (arith, gap-size);
         charge-products = each-priced c _ (λ q m. omega (arith, paid-size c h y p x b q m, paid-figure c h y p x b q m));
         charge-fits = charges-fit;
         lmp-terms = each-upto _ (c .resources) (λ i m. omega (arith, p .price Balance tt, flowgates-most c y h p i m));
@@ -90,7 +93,7 @@ module _ (c : Case) (h : CaseRanges c) (y : Prices) (p : PriceRanges c y) (x : S
         product-terms-most = products-most c h y p;
         bound-most = bound-size c h y p .le;
         cost-most = cost-size c h x b .le;
-        gap-most = size-sub (cost-size c h x b) (bound-size c h y p) .le;
+        gap-most = gap-size .le;
       }
 
 -- ---- of any case, schedule and prices in their ranges
