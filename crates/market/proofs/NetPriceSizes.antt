@@ -35,7 +35,8 @@ module _ (c : Case) (y : Prices) (h : CaseRanges c) (p : PriceRanges c y) where
 
   pub lmp-size : (i : ℕ) → i < c .resources → Size (LMP c y i) mostLmp
   unfolding LMP
-  lmp-size i n = size-sub (p .price Balance tt) (size-sum (λ f. y (Flowgate f) *ℤ c .shiftFactor f i) (upto (c .flowgates)) (flowgates-most i n))
+  lmp-size i n =
+      size-more (size-sub (p .price Balance tt) (size-sum (λ f. y (Flowgate f) *ℤ c .shiftFactor f i) (upto (c .flowgates)) (flowgates-most i n))) (omega arith)
 
   module _ (z : ℕ) (m : z < c .zones) where
     both-size : (k : Curve) → Size (bothRows y z k) (2 * mostPrice)
