@@ -21,7 +21,7 @@ use Rattle.market.specs.Outcome.{caseGrounds, caseAnswer, sameCounts, fo
 use Rattle.market.specs.Numbers.{fieldAt, fieldBytes, numbersAt, bytesOf, numbersFit, times, caseFields, certificateFields, fileOf, numbersOf, certificateFileGrounds, readCaseGrounds, readCertificateGrounds, readCase, readCertificate, countsInRange, fieldsFor, fileFor, listGrounds, writeCaseGrounds, writeCertificateGrounds, writeCase, writeCertificate}
 use Rattle.market.specs.Program.{digitsOn, decimal, spaced, resourceLine, zoneLine, refusalLine, report, printed}
 use Rattle.market.specs.Interval.{K, Q}
-use Rattle.market.specs.WorkedFlowgates.{twelveFlowgates, tooManyFlowgates}
+use Rattle.market.specs.WorkedFlowgates.{flowgateCounts}
 use Rattle.market.specs.WorkedTrips.{Trips, trippedUnits}
 use Rattle.market.specs.Worked.{intervals, selfSchedules, refusals, orders, same, AsSaid}
 
@@ -51,13 +51,9 @@ pub tripped-units : AsSaid trippedUnits
 unfolding minℤ sumOf upto all across widthOf caseOf resourceAt lengthRight versionRight countsRight caseSizeRight reserveInRange resourceInRange flowgateInRange fieldsInRange stepsFollow stepsRight energyStepsRight stepsRule pairsOrdered limitsOrdered hasTripped running availabilityOf onLine MAX MIN HI LO quantities RAMP SHARE onLineBound boundWhen serviceBound upperBound rows none one minusOne entries spins inReserve inLimit coefficient rightSide leftSide slack amountAt priceAt certificateOf priced quantityOf servicePrice offer pricedUpperBound filled part cost rowValue netPrice lowest bound firstFailing firstOf caseGrounds sameCounts formGrounds certificateGrounds valuation outcome same
 tripped-units = tt
 
-pub twelve-flowgates : AsSaid twelveFlowgates
-unfolding minℤ sumOf totalOf upto all across widthOf caseOf resourceAt lengthRight versionRight countsRight caseSizeRight reserveInRange resourceInRange flowgateInRange fieldsInRange stepsFollow stepsRight energyStepsRight stepsRule pairsOrdered limitsOrdered hasTripped running availabilityOf onLine MAX MIN HI LO quantities RAMP SHARE onLineBound boundWhen serviceBound upperBound rows none one minusOne entries spins inReserve inLimit coefficient rightSide leftSide slack amountAt priceAt certificateOf priced quantityOf servicePrice offer pricedUpperBound filled part cost rowValue netPrice lowest bound LMP zoneSupplementalPrice zoneSpinningPrice zoneRegulatingPrice zoneShortTermPrice firstFailing firstOf caseGrounds caseAnswer sameCounts formGrounds certificateGrounds valuation outcome priceGrounds chargeGrounds priceAnswer chargeAnswer fieldAt fieldBytes numbersAt bytesOf numbersFit times caseFields certificateFields fileOf numbersOf certificateFileGrounds readCaseGrounds readCertificateGrounds readCase readCertificate countsInRange fieldsFor fileFor listGrounds writeCaseGrounds writeCertificateGrounds writeCase writeCertificate digitsOn decimal spaced resourceLine zoneLine refusalLine report printed priceList same
-twelve-flowgates = tt
-
-pub too-many-flowgates : AsSaid tooManyFlowgates
-unfolding minℤ sumOf totalOf upto all across widthOf caseOf resourceAt lengthRight versionRight countsRight caseSizeRight reserveInRange resourceInRange flowgateInRange fieldsInRange stepsFollow stepsRight energyStepsRight stepsRule pairsOrdered limitsOrdered hasTripped running availabilityOf onLine MAX MIN HI LO quantities RAMP SHARE onLineBound boundWhen serviceBound upperBound rows none one minusOne entries spins inReserve inLimit coefficient rightSide leftSide slack amountAt priceAt certificateOf priced quantityOf servicePrice offer pricedUpperBound filled part cost rowValue netPrice lowest bound LMP zoneSupplementalPrice zoneSpinningPrice zoneRegulatingPrice zoneShortTermPrice firstFailing firstOf caseGrounds caseAnswer sameCounts formGrounds certificateGrounds valuation outcome priceGrounds chargeGrounds priceAnswer chargeAnswer fieldAt fieldBytes numbersAt bytesOf numbersFit times caseFields certificateFields fileOf numbersOf certificateFileGrounds readCaseGrounds readCertificateGrounds readCase readCertificate countsInRange fieldsFor fileFor listGrounds writeCaseGrounds writeCertificateGrounds writeCase writeCertificate digitsOn decimal spaced resourceLine zoneLine refusalLine report printed same
-too-many-flowgates = tt
+pub flowgate-counts : AsSaid flowgateCounts
+unfolding sumOf totalOf upto all across widthOf caseOf resourceAt lengthRight versionRight countsRight caseSizeRight reserveInRange resourceInRange flowgateInRange fieldsInRange stepsFollow stepsRight energyStepsRight stepsRule pairsOrdered limitsOrdered hasTripped running availabilityOf onLine MAX quantities RAMP SHARE onLineBound boundWhen serviceBound upperBound rows amountAt priceAt certificateOf LMP firstFailing firstOf caseGrounds caseAnswer sameCounts formGrounds certificateGrounds outcome fieldAt numbersAt numbersFit times caseFields certificateFields numbersOf certificateFileGrounds readCertificateGrounds readCertificate countsInRange fieldsFor listGrounds writeCaseGrounds writeCertificateGrounds writeCase writeCertificate same
+flowgate-counts = tt
 
 pub each-refusal : AsSaid refusals
 unfolding minℤ sumOf totalOf upto all across widthOf caseOf resourceAt lengthRight versionRight countsRight caseSizeRight reserveInRange resourceInRange flowgateInRange fieldsInRange stepsFollow stepsRight energyStepsRight stepsRule pairsOrdered limitsOrdered hasTripped running availabilityOf onLine MAX MIN HI LO quantities RAMP SHARE onLineBound boundWhen serviceBound upperBound rows none one minusOne entries spins inReserve inLimit coefficient rightSide leftSide slack amountAt priceAt certificateOf priced quantityOf servicePrice offer pricedUpperBound filled part cost rowValue netPrice lowest bound LMP zoneSupplementalPrice zoneSpinningPrice zoneRegulatingPrice zoneShortTermPrice firstFailing firstOf caseGrounds caseAnswer sameCounts formGrounds certificateGrounds valuation outcome priceGrounds chargeGrounds priceAnswer chargeAnswer fieldAt fieldBytes numbersAt bytesOf numbersFit times caseFields certificateFields fileOf numbersOf certificateFileGrounds readCaseGrounds readCertificateGrounds readCase readCertificate countsInRange fieldsFor fileFor listGrounds writeCaseGrounds writeCertificateGrounds writeCase writeCertificate digitsOn decimal spaced resourceLine zoneLine refusalLine report printed same

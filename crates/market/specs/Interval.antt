@@ -102,5 +102,5 @@ gatedQ = flowgatePricesTo 1 (u32Bytes 200) Q
 abbrev pub gated : ℕ → List ℕ
 gated n = flowgatesTo n (u32Bytes 20000000 ++ u16Bytes 1000) K
 
-abbrev pub gatedAtHighest : ℕ → List ℕ
-gatedAtHighest n = flowgatePricesTo n (u32Bytes 400000) (change 24 (minus32 400000000) Q)
+abbrev pub gatedAtHighest : ℕ → List ℕ → List ℕ
+gatedAtHighest n q = flowgatePricesTo n (u32Bytes 400000) (change 24 (minus32 400000000) q)

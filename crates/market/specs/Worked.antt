@@ -147,8 +147,6 @@ refusals =
     ∷ record { given = counted (countOf (readCertificate Q 26)) ++ counted (countOf (readCertificate (change 5 (65 ∷ []) Q) 26)); says = pos 0 ∷ pos 26 ∷ pos 3 ∷ pos 0 ∷ [] }
     ∷ record { given = counted (countOf (writeCase (caseNumbers K) 340)) ++ counted (countOf (writeCase (take 94 (caseNumbers K)) 340)); says = pos 0 ∷ pos 340 ∷ pos 16 ∷ pos 0 ∷ [] }
     ∷ record { given = counted (countOf (writeCertificate (certificateNumbers Q) 99)) ++ counted (countOf (writeCertificate (pos 1 ∷ pos 1 ∷ []) 99)); says = pos 15 ∷ pos 0 ∷ pos 16 ∷ pos 0 ∷ [] }
-    -- F 17 and a list too short
-    ∷ record { given = counted (countOf (writeCase (pos 1 ∷ pos 1 ∷ pos 17 ∷ []) 340)); says = pos 3 ∷ pos 0 ∷ [] }
     ∷ record { given = asNumbers (printed (zeros 32769)); says = asNumbers (114 ∷ 101 ∷ 102 ∷ 117 ∷ 115 ∷ 101 ∷ 100 ∷ 32 ∷ 49 ∷ 55 ∷ 10 ∷ []) }
     ∷ []
 
