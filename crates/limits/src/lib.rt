@@ -295,12 +295,10 @@ pub struct ResourceLimits {
     pub low: Kw,
 }
 
-pub fn limits_of(r: Resource) -> ResourceLimits
+pub fn limits_of(on: bool, r: Resource) -> ResourceLimits
     requires { ⌜ Ranged r ⌝ }
-    ensures { λ l. ⌜ ((s : Figures) → r ≡ recordOf s → l ≡ limitsOf s) ⌝ }
+    ensures { λ l. ⌜ ((s : Figures) → on ≡ onLine s → r ≡ recordOf s → l ≡ limitsOf s) ⌝ }
 {
-    let availability = availability_of(r);
-    let on = availability.on_line();
     let most = max_limit(on, r);
     let high = high_limit(on, r);
     ResourceLimits {
@@ -358,15 +356,14 @@ fn offered(steps: OfferSteps) -> Kw
 }
 
 // e
-pub fn energy_bound(availability: Availability, steps: OfferSteps) -> Kw
+pub fn energy_bound(on: bool, steps: OfferSteps) -> Kw
     requires { ⌜ RangedSteps steps ⌝ }
-    ensures { λ m. ⌜ ((c : Case) (s : Figures) → availability ≡ availabilityOf s → steps ≡ offerStepsOf s → m ≡ power (serviceBound c s energy)) ⌝ }
+    ensures { λ m. ⌜ ((c : Case) (s : Figures) → on ≡ onLine s → steps ≡ offerStepsOf s → m ≡ power (serviceBound c s energy)) ⌝ }
 {
-    match availability {
-        Availability::OnLine => offered(steps),
-        Availability::OffLine => Kw(0),
-        Availability::Tripped => Kw(0),
+    if !on {
+        return Kw(0);
     }
+    offered(steps)
 }
 
 // ---- of its reserves on-line, of its MAX, `most`

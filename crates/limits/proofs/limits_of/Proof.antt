@@ -1,15 +1,12 @@
 -- `limits::limits_of` meets its contract: limit by limit, LO from MAX and HI. Assumes nothing.
 use borrow.Author.Needs.{needs}
 use Rattle.limits.specs.Together.{limitsOf}
-use Rattle.limits.proofs.ByKind.{on-line-is}
 use Rattle.limits.proofs.limits_of.Statement.{statement}
 use Rattle.limits.proofs.limits_of.Tie as tie
 
 returns : tie.Need-returns
 unfolding limitsOf
-returns c = λ s e.
-    let x = c .before .before .before .before in
-    let on = on-line-is s (x .before .availability-of .ensures s e) (x .on-line .ensures) in
+returns c = λ s on e.
     let most = c .before .before .before .max-limit .ensures s on e in
     let high = c .before .before .high-limit .ensures s on e in
     λ i. record {
@@ -20,4 +17,4 @@ returns c = λ s e.
     }
 
 pub limits-of-spec : {M : Type 1} → statement M
-limits-of-spec = tie.close (tie.spec (λ c κs. search needs) (λ c κs. search needs) (λ c κs. search needs) (λ c κs. search needs) (λ c κs. search needs) (λ c κs. search needs) returns)
+limits-of-spec = tie.close (tie.spec (λ c κs. search needs) (λ c κs. search needs) (λ c κs. search needs) (λ c κs. search needs) returns)
