@@ -6,6 +6,7 @@ use Prim.Native.Nat.{ℕ, _+_, _*_, _<_, _≤_}
 use lib.IntN.{ℤ, pos}
 use lib.ListN.{length, take, drop}
 use Rattle.market.specs.Case.{Case, Resource}
+use Rattle.market.specs.CaseCheck.{mostResources}
 use Rattle.market.specs.Availability.{onLine}
 use Rattle.market.specs.Rows.{isSpinning}
 use Rattle.limits.specs.Together.{limitsOf, reserveBoundsOf}
@@ -35,6 +36,10 @@ numbersOf k =
 
 abbrev pub numberCount : ℕ
 numberCount = 10
+
+-- of the most resources that a case can have
+abbrev pub mostNumbers : ℕ
+mostNumbers = mostResources * numberCount
 
 -- of resource i of a case
 abbrev pub numbersIn : Case → ℕ → List ℤ

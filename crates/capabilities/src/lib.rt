@@ -21,6 +21,7 @@ ghost use Rattle.capabilities.specs.Sizes.{SmallCapability};
 use limits::ReserveBounds;
 use limits::ResourceLimits;
 use market::Kw;
+use market::MOST_RESOURCES;
 use market::Resource;
 use market::Terms;
 
@@ -32,8 +33,10 @@ pub struct Capability {
     pub bounds: ReserveBounds,
 }
 
-// How many numbers are kept of a resource.
+// How many numbers are kept of a resource, and of the most resources that a case can have.
 pub const NUMBERS: usize = 10;
+
+pub const MOST_NUMBERS: usize = MOST_RESOURCES * NUMBERS;
 
 fn capability_of(terms: Terms, r: Resource) -> Capability
     requires { ⌜ TermsRanged terms × Ranged r ⌝ }

@@ -4,7 +4,8 @@ ghost use mathlib.Core.Path.{_≡_};
 ghost use mathlib.Core.Bool.{cond};
 ghost use Prim.Native.Nat.{_+_, _*_, _<_};
 ghost use lib.IntN.{natAbs, pos, _+ℤ_, _-ℤ_, _*ℤ_};
-ghost use Rattle.market.specs.Availability.{onLine};
+ghost use Rattle.market.specs.Rows.{isSpinning};
+ghost use Rattle.market.specs.Prices.{LMP};
 ghost use Rattle.market.specs.CaseFile.{caseOf};
 ghost use Rattle.market.specs.Certificate.{certificateOf};
 ghost use Rattle.market.specs.Records.{recordOf, millicents};
@@ -131,7 +132,7 @@ fn nets_of(
     }
 }
 
-// The net prices of resource i, whose record has been read; `on` is whether it is on-line.
+// The net prices of resource i, whose record has been read; `spins` is whether its contingency reserve is spinning, `lmp` its LMP.
 pub fn nets_for(
     b: &[u8],
     q: &[u8],
@@ -139,17 +140,17 @@ pub fn nets_for(
     z: usize,
     f: usize,
     i: usize,
-    on: bool,
+    spins: bool,
+    lmp: Millicents,
     resource: Resource,
 ) -> Nets
-    requires { ⌜ (PricesStand (now b) (now q) r z f × (i < r)) × ((on ≡ onLine (caseOf (now b) .resource i)) × (resource ≡ recordOf (caseOf (now b) .resource i))) ⌝ }
+    requires { ⌜ (PricesStand (now b) (now q) r z f × (i < r)) × ((spins ≡ isSpinning (caseOf (now b) .resource i)) × (resource ≡ recordOf (caseOf (now b) .resource i))) ⌝ }
+    requires { ⌜ lmp ≡ millicents (LMP (caseOf (now b)) (certificateOf (now q) .price) i) ⌝ }
     ensures { λ n. ⌜ n ≡ netsOf (caseOf (now (b .entry))) (certificateOf (now (q .entry)) .price) i ⌝ }
 {
     let state = resource.state;
     let zone = state.zone as usize - 1;
-    let spins = limits::spinning(on, state);
     let own = certificate_records::limit_prices_at(q, r, z, f, i);
-    let lmp = prices::lmp(b, q, r, z, f, i);
     let prices = prices::zone_prices(b, q, r, z, f, zone);
     nets_of(resource.offers, spins, own, lmp, prices)
 }

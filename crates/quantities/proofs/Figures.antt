@@ -7,19 +7,15 @@ use native.Mathlib.Omega.{arith}
 use lib.Signed.{leZ}
 use Rattle.market.specs.declared.Kw.{Kw}
 use Rattle.market.specs.declared.OfferSteps.{OfferSteps}
-use Rattle.market.specs.declared.Resource.{Resource}
 use Rattle.market.specs.CaseFile.{caseOf}
-use Rattle.market.specs.Records.{recordOf, offerStepsOf}
-use Rattle.case_records.specs.Ranged.{Ranged, RangedSteps}
+use Rattle.market.specs.Records.{offerStepsOf}
+use Rattle.case_records.specs.Ranged.{RangedSteps}
 use Rattle.case_records.proofs.Places.{resources-is}
-use Rattle.case_records.proofs.Ranged.{valid-resource, valid-steps}
+use Rattle.case_records.proofs.Ranged.{valid-steps}
 use Rattle.quantities.specs.Filing.{Filing}
 
 -- ---- resources
 module _ {b q : List ℕ} {r z f : ℕ} (h : Filing b q r z f) where
-  pub resource-ranged : {s : Resource} (i : ℕ) → i < r → s ≡ recordOf (caseOf b .resource i) → Ranged s
-  resource-ranged i l e = rw e (valid-resource b (h .valid) i (omega (arith, resources-is (h .case-bytes))))
-
   pub steps-ranged : {o : OfferSteps} (i : ℕ) → i < r → o ≡ offerStepsOf (caseOf b .resource i) → RangedSteps o
   steps-ranged i l e = rw e (valid-steps b (h .valid) i (omega (arith, resources-is (h .case-bytes))))
 

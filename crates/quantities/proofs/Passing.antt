@@ -3,6 +3,7 @@
 use mathlib.Core.Path.{_≡_, refl, sym, _∙_, ap, subst}
 use mathlib.Core.List.{List, [], _∷_, _++_}
 use Prim.Native.Nat.{ℕ}
+use lib.IntN.{ℤ}
 use Rattle.arith.specs.Sums.{all}
 use Rattle.arith.proofs.Lists.{each-split}
 use Rattle.market.specs.declared.Refusal.{Refusal}
@@ -25,7 +26,8 @@ use Rattle.case_records.specs.Places.{CaseBytes}
 use Rattle.case_records.proofs.Places.{valid-bytes}
 use Rattle.certificate_form.proofs.Forms.{form-bytes}
 use Rattle.prices.specs.Standing.{Standing}
-use Rattle.quantities.specs.Filing.{Filing, FiledWith, Filed, Advanced, afterwards}
+use Rattle.capabilities.specs.Kept.{Kept}
+use Rattle.quantities.specs.Filing.{Filing, FiledWith, Filed, Advanced, Decided, afterwards}
 
 -- ---- stages and findings
 -- one ground more, of the stage's answer and of the list
@@ -90,6 +92,13 @@ refuses {b} {q} {s} {g} {n} {w} e h = record { answer = rw (e, h); filed = recor
 pub passes-on : {b q : List ℕ} {s : Stage} {g : Finding} {n : Counts} → Filed b q s → s ≡ Passed n → g ≡ clear → Advanced b q s g (Passed n)
 unfolding afterwards
 passes-on {b} {q} {s} {g} {n} f e h = record { answer = rw (e, h); filed = record { known = λ m k. f .known m (e ∙ k) } }
+
+-- what is decided of each resource is kept once it is written; where something is refused nothing need be
+pub decided : {b : List ℕ} {n : Counts} {k : List ℤ} → Kept (caseOf b) (n .resources) k → Decided b (Passed n) k
+decided {b} {n} {k} h = record { known = λ m e. let same : n ≡ m = cc in rw (← same) h }
+
+pub undecided : {b : List ℕ} {s : Stage} {w : Refusal} {k : List ℤ} → s ≡ Refused w → Decided b s k
+undecided h = record { known = λ n e. not-passed (sym h ∙ e) }
 
 -- ---- past 1 to 13
 pub standing : (b q : List ℕ) → firstOf (groundsTo13 b q) ≡ clear → Standing b q (caseOf b .resources) (caseOf b .zones) (caseOf b .flowgates)

@@ -1,6 +1,7 @@
 // The certificate check as far as the upper bounds: grounds 1 to 13 of a case and a certificate, each tested only where no
 // earlier one holds anywhere in the files (01, 'How each operation refuses').
 use case_check::Stage;
+use limits::ReserveBounds;
 use market::Amounts;
 use market::CURVES;
 use market::CurveAmounts;
@@ -8,27 +9,28 @@ use market::First;
 use market::Kw;
 use market::OfferSteps;
 use market::Refusal;
-use market::Resource;
 use market::SERVICES;
-use market::Terms;
 ghost use mathlib.Core.Path.{_≡_};
 ghost use mathlib.Core.List.{map};
 ghost use Prim.Native.Nat.{ℕ, _+_, _<_, _≤_};
 ghost use lib.Dec.{leb};
+ghost use lib.ListN.{length};
 ghost use Rattle.arith.specs.Sums.{upto, across};
 ghost use Rattle.market.specs.declared.Refusal.the-variants.{AboveBound};
 ghost use Rattle.market.specs.Case.{Case, curves, curveNumbered};
+ghost use Rattle.market.specs.Availability.{onLine};
 ghost use Rattle.market.specs.CaseFile.{caseOf};
 ghost use Rattle.market.specs.UpperBounds.{Cleared, Provided, services, Schedule, upperBound};
 ghost use Rattle.market.specs.Certificate.{certificateOf};
-ghost use Rattle.market.specs.Records.{power, countsIn, recordOf, offerStepsOf, termsOf, amountsOf, clearedOf};
+ghost use Rattle.market.specs.Records.{power, countsIn, offerStepsOf, amountsOf, clearedOf};
 ghost use Rattle.market.specs.Refusals.{firstOf, firstFailing, foundAt};
 ghost use Rattle.market.specs.Outcome.{Valid, withinBound, priceGround, boundGround, groundsTo11, groundsTo13};
 ghost use Rattle.case_check.specs.Stages.{stageOf};
 ghost use Rattle.case_records.specs.Places.{HeadIn, CurveIn};
-ghost use Rattle.case_records.specs.Ranged.{Ranged, RangedSteps};
-ghost use Rattle.limits.specs.Together.{TermsRanged};
-ghost use Rattle.quantities.specs.Filing.{Filing, Filed, Advanced};
+ghost use Rattle.case_records.specs.Ranged.{RangedSteps};
+ghost use Rattle.limits.specs.Together.{reserveBoundsOf};
+ghost use Rattle.capabilities.specs.Kept.{mostNumbers, Kept};
+ghost use Rattle.quantities.specs.Filing.{Filing, Filed, Advanced, Decided};
 ghost use Rattle.quantities.specs.Places.{firstProvided};
 
 // Places have 32 bits. Those of resources begin behind the cleared quantities, one for each curve.
@@ -59,14 +61,11 @@ fn curve_bounds(b: &[u8], r: usize, z: usize, f: usize) -> CurveAmounts
 }
 
 // Of a resource's five quantities.
-fn service_bounds(r: Resource, steps: OfferSteps, terms: Terms) -> Amounts
-    requires { ⌜ Ranged r × (RangedSteps steps × TermsRanged terms) ⌝ }
-    ensures { λ m. ⌜ ((c : Case) (i : ℕ) → terms ≡ termsOf c → r ≡ recordOf (c .resource i) → steps ≡ offerStepsOf (c .resource i) → m ≡ amountsOf (upperBound c) i) ⌝ }
+fn service_bounds(on: bool, reserves: ReserveBounds, steps: OfferSteps) -> Amounts
+    requires { ⌜ RangedSteps steps ⌝ }
+    ensures { λ m. ⌜ ((c : Case) (i : ℕ) → on ≡ onLine (c .resource i) → reserves ≡ reserveBoundsOf c (c .resource i) → steps ≡ offerStepsOf (c .resource i) → m ≡ amountsOf (upperBound c) i) ⌝ }
 {
-    let availability = limits::availability_of(r);
-    let energy = limits::energy_bound(availability, steps);
-    let most = limits::max_limit(availability.on_line(), r);
-    let reserves = limits::reserve_bounds(most, terms, availability, r);
+    let energy = limits::energy_bound(on, steps);
     let regulation = reserves.regulation;
     let contingency = reserves.contingency;
     let on_line_short_term = reserves.on_line_short_term;
@@ -125,18 +124,24 @@ fn provided_above(given: Amounts, most: Amounts, place: u32) -> First
     First::None
 }
 
-fn first_provided_above(b: &[u8], q: &[u8], r: usize, z: usize, f: usize) -> First
-    requires { ⌜ Filing (now b) (now q) r z f ⌝ }
+fn first_provided_above(
+    b: &[u8],
+    q: &[u8],
+    r: usize,
+    z: usize,
+    f: usize,
+    kept: &[i32],
+) -> First
+    requires { ⌜ Filing (now b) (now q) r z f × Kept (caseOf (now b)) r (now kept) ⌝ }
     ensures { λ n. ⌜ foundAt AboveBound n ≡ firstFailing (withinBound (caseOf (now (b .entry))) (certificateOf (now (q .entry)))) AboveBound firstProvided (across (λ i. map (Provided i) services) (upto r)) ⌝ }
 {
-    let terms = case_reader::terms_in(b, r, z, f);
     let mut place = FIRST_PROVIDED;
     let mut i: usize = 0;
     while i < r {
         let most = service_bounds(
-            case_reader::resource_at(b, r, z, f, i),
+            capabilities::on_line_at(kept, i),
+            capabilities::bounds_at(kept, i),
             case_reader::offer_steps_at(b, r, z, f, i),
-            terms,
         );
         let given = certificate_records::amounts_at(q, r, z, f, i);
         let found = provided_above(given, most, place);
@@ -149,8 +154,8 @@ fn first_provided_above(b: &[u8], q: &[u8], r: usize, z: usize, f: usize) -> Fir
     First::None
 }
 
-fn first_above(b: &[u8], q: &[u8], r: usize, z: usize, f: usize) -> First
-    requires { ⌜ Filing (now b) (now q) r z f ⌝ }
+fn first_above(b: &[u8], q: &[u8], r: usize, z: usize, f: usize, kept: &[i32]) -> First
+    requires { ⌜ Filing (now b) (now q) r z f × Kept (caseOf (now b)) r (now kept) ⌝ }
     ensures { λ n. ⌜ foundAt AboveBound n ≡ boundGround (caseOf (now (b .entry))) (certificateOf (now (q .entry))) ⌝ }
 {
     let given = certificate_records::cleared(q, r, z, f);
@@ -159,7 +164,7 @@ fn first_above(b: &[u8], q: &[u8], r: usize, z: usize, f: usize) -> First
     let First::None = found else {
         return found;
     };
-    first_provided_above(b, q, r, z, f)
+    first_provided_above(b, q, r, z, f, kept)
 }
 
 // ---- the stages
@@ -188,25 +193,28 @@ fn prices_stage(b: &[u8], q: &[u8], earlier: Stage) -> Stage
     Stage::Passed(n)
 }
 
-// 13.
-fn quantities_stage(b: &[u8], q: &[u8], earlier: Stage) -> Stage
-    requires { ⌜ Filed (now b) (now q) earlier ⌝ }
-    ensures { λ r. ⌜ Advanced (now (b .entry)) (now (q .entry)) earlier (boundGround (caseOf (now (b .entry))) (certificateOf (now (q .entry)))) r ⌝ }
+// 13. What is decided of each resource is left in `kept`.
+fn quantities_stage(b: &[u8], q: &[u8], earlier: Stage, kept: &mut [i32]) -> Stage
+    requires { ⌜ Filed (now b) (now q) earlier × (mostNumbers ≤ length (now kept)) ⌝ }
+    ensures { λ r. ⌜ Advanced (now (b .entry)) (now (q .entry)) earlier (boundGround (caseOf (now (b .entry))) (certificateOf (now (q .entry)))) r × Decided (now (b .entry)) r (now (kept .exit)) ⌝ }
 {
     let Stage::Passed(n) = earlier else {
         return earlier;
     };
-    let found = first_above(b, q, n.resources, n.zones, n.flowgates);
+    capabilities::write_capabilities(b, n.resources, n.zones, n.flowgates, kept);
+    let found = first_above(b, q, n.resources, n.zones, n.flowgates, kept);
     let First::At(place) = found else {
         return Stage::Passed(n);
     };
     Stage::Refused(Refusal::AboveBound(place))
 }
 
-// 1 to 13: the counts of a case and a certificate that have passed them, or the first ground that holds.
-pub fn bounds_stage(b: &[u8], q: &[u8]) -> Stage
-    ensures { λ r. ⌜ r ≡ stageOf (countsIn (caseOf (now (b .entry)))) (firstOf (groundsTo13 (now (b .entry)) (now (q .entry)))) ⌝ }
+// 1 to 13: the counts of a case and a certificate that have passed them, or the first ground that holds. Where they pass, what is
+// decided of each resource is left in `kept`.
+pub fn bounds_stage(b: &[u8], q: &[u8], kept: &mut [i32]) -> Stage
+    requires { ⌜ mostNumbers ≤ length (now kept) ⌝ }
+    ensures { λ r. ⌜ (r ≡ stageOf (countsIn (caseOf (now (b .entry)))) (firstOf (groundsTo13 (now (b .entry)) (now (q .entry))))) × Decided (now (b .entry)) r (now (kept .exit)) ⌝ }
 {
     let form = form_stage(b, q);
-    quantities_stage(b, q, prices_stage(b, q, form))
+    quantities_stage(b, q, prices_stage(b, q, form), kept)
 }

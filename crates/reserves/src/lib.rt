@@ -4,26 +4,25 @@ ghost use mathlib.Core.Path.{_≡_};
 ghost use mathlib.Core.Bool.{cond};
 ghost use Prim.Native.Nat.{_<_, _≤_};
 ghost use lib.IntN.{pos, natAbs};
-ghost use Rattle.market.specs.Case.{Resource as Figures};
 ghost use Rattle.market.specs.CaseFile.{caseOf};
 ghost use Rattle.market.specs.Certificate.{certificateOf};
 ghost use Rattle.market.specs.Rows.{isSpinning};
-ghost use Rattle.market.specs.Records.{kw, curveAmountsOf, stateOf};
+ghost use Rattle.market.specs.Records.{kw, curveAmountsOf};
+ghost use Rattle.capabilities.specs.Kept.{Kept};
 ghost use Rattle.prices.specs.Standing.{Standing, SmallAmounts};
 ghost use Rattle.reserves.specs.Given.{SumsRoom, givenBy, zonedAmountsOf, addedAmounts, totalsOf};
 use market::Amounts;
 use market::CurveAmounts;
 use market::Kw;
 use market::MOST_ZONES;
-use market::State;
 
 // ---- of one resource
 
 // What of its contingency reserve is spinning.
-fn spinning(state: State, contingency: Kw) -> Kw
-    ensures { λ a. ⌜ ((s : Figures) → state ≡ stateOf s → a ≡ kw (cond (isSpinning s) (contingency .0) (pos 0))) ⌝ }
+fn spinning(spins: bool, contingency: Kw) -> Kw
+    ensures { λ a. ⌜ a ≡ kw (cond spins (contingency .0) (pos 0)) ⌝ }
 {
-    if limits::state_spinning(state) {
+    if spins {
         return contingency;
     }
     Kw(0)
@@ -49,14 +48,22 @@ struct ZonedAmounts {
     amounts: CurveAmounts,
 }
 
-// Of resource i.
-fn reserve_given(b: &[u8], q: &[u8], r: usize, z: usize, f: usize, i: usize) -> ZonedAmounts
-    requires { ⌜ Standing (now b) (now q) r z f × (i < r) ⌝ }
+// Of resource i, `spins` being whether its contingency reserve is spinning.
+fn reserve_given(
+    b: &[u8],
+    q: &[u8],
+    r: usize,
+    z: usize,
+    f: usize,
+    i: usize,
+    spins: bool,
+) -> ZonedAmounts
+    requires { ⌜ Standing (now b) (now q) r z f × ((i < r) × (spins ≡ isSpinning (caseOf (now b) .resource i))) ⌝ }
     ensures { λ v. ⌜ v ≡ zonedAmountsOf (caseOf (now (b .entry))) (certificateOf (now (q .entry)) .amount) i ⌝ }
 {
     let resource = case_reader::resource_at(b, r, z, f, i);
     let a = certificate_records::amounts_at(q, r, z, f, i);
-    let spin = spinning(resource.state, a.contingency);
+    let spin = spinning(spins, a.contingency);
     let amounts = given(a, spin);
     ZonedAmounts {
         zone: resource.state.zone,
@@ -99,15 +106,16 @@ pub struct ReserveTotals {
     pub zones: [CurveAmounts; MOST_ZONES],
 }
 
-pub fn totals(b: &[u8], q: &[u8], r: usize, z: usize, f: usize) -> ReserveTotals
-    requires { ⌜ Standing (now b) (now q) r z f ⌝ }
+pub fn totals(b: &[u8], q: &[u8], r: usize, z: usize, f: usize, kept: &[i32]) -> ReserveTotals
+    requires { ⌜ Standing (now b) (now q) r z f × Kept (caseOf (now b)) r (now kept) ⌝ }
     ensures { λ v. ⌜ v ≡ totalsOf (now (b .entry)) (now (q .entry)) r ⌝ }
 {
     let mut market = nothing();
     let mut zones = [market; MOST_ZONES];
     let mut i: usize = 0;
     while i < r {
-        let one = reserve_given(b, q, r, z, f, i);
+        let spins = capabilities::spinning_at(kept, i);
+        let one = reserve_given(b, q, r, z, f, i, spins);
         let own = one.amounts;
         market = amounts_sum(market, own);
         let zone = one.zone as usize - 1;

@@ -12,6 +12,7 @@ ghost use Rattle.market.specs.Rows.{Balance, Zone, Flowgate, Limited, limits, m
 ghost use Rattle.market.specs.Certificate.{certificateOf};
 ghost use Rattle.market.specs.Charges.{rowCharge};
 ghost use Rattle.market.specs.Records.{grains};
+ghost use Rattle.capabilities.specs.Kept.{Kept};
 ghost use Rattle.prices.specs.Standing.{Standing};
 ghost use Rattle.reserves.specs.Given.{marketTotal, zoneTotal, zoneTotals};
 ghost use Rattle.row_charges.specs.Families.{RowChargeRoom, FourRoom, FiveRoom, rowChargeIn, fourCharges, fiveCharges};
@@ -213,26 +214,34 @@ fn write_five(prices: LimitPrices, a: Amounts, l: ResourceLimits, out: &mut [i64
     out[4] = fifth;
 }
 
-fn write_resource(b: &[u8], q: &[u8], r: usize, z: usize, f: usize, i: usize, out: &mut [i64])
-    requires { ⌜ Standing (now b) (now q) r z f × ((i < r) × (resourceRowCount ≤ length (now out))) ⌝ }
+fn write_resource(
+    b: &[u8],
+    q: &[u8],
+    r: usize,
+    z: usize,
+    f: usize,
+    i: usize,
+    kept: &[i32],
+    out: &mut [i64],
+)
+    requires { ⌜ Standing (now b) (now q) r z f × ((i < r) × ((resourceRowCount ≤ length (now out)) × Kept (caseOf (now b)) r (now kept))) ⌝ }
     ensures { λ _. ⌜ now (out .exit) ≡ map (rowChargeIn (now (b .entry)) (now (q .entry))) (map (Limited i) limits) ++ drop resourceRowCount (now (out .entry)) ⌝ }
 {
     let prices = certificate_records::limit_prices_at(q, r, z, f, i);
-    let resource = case_reader::resource_at(b, r, z, f, i);
-    let own = limits::limits_of(resource);
+    let own = capabilities::limits_at(kept, i);
     let a = certificate_records::amounts_at(q, r, z, f, i);
     write_five(prices, a, own, out);
 }
 
 // Each resource's, from its own place on.
-fn write_resources(b: &[u8], q: &[u8], r: usize, z: usize, f: usize, out: &mut [i64])
-    requires { ⌜ Standing (now b) (now q) r z f × (r * resourceRowCount ≤ length (now out)) ⌝ }
+fn write_resources(b: &[u8], q: &[u8], r: usize, z: usize, f: usize, kept: &[i32], out: &mut [i64])
+    requires { ⌜ Standing (now b) (now q) r z f × ((r * resourceRowCount ≤ length (now out)) × Kept (caseOf (now b)) r (now kept)) ⌝ }
     ensures { λ _. ⌜ now (out .exit) ≡ map (rowChargeIn (now (b .entry)) (now (q .entry))) (limitRows (caseOf (now (b .entry)))) ++ drop (r * resourceRowCount) (now (out .entry)) ⌝ }
 {
     let mut i: usize = 0;
     let mut at: usize = 0;
     while i < r {
-        write_resource(b, q, r, z, f, i, &mut out[at..]);
+        write_resource(b, q, r, z, f, i, kept, &mut out[at..]);
         at += RESOURCE_ROWS;
         i += 1;
     }
@@ -241,22 +250,30 @@ fn write_resources(b: &[u8], q: &[u8], r: usize, z: usize, f: usize, out: &mut [
 // ---- all rows
 
 // Flowgates' and resources'.
-fn write_network(b: &[u8], q: &[u8], r: usize, z: usize, f: usize, out: &mut [i64])
-    requires { ⌜ Standing (now b) (now q) r z f × (f + r * resourceRowCount ≤ length (now out)) ⌝ }
+fn write_network(b: &[u8], q: &[u8], r: usize, z: usize, f: usize, kept: &[i32], out: &mut [i64])
+    requires { ⌜ Standing (now b) (now q) r z f × ((f + r * resourceRowCount ≤ length (now out)) × Kept (caseOf (now b)) r (now kept)) ⌝ }
     ensures { λ _. ⌜ now (out .exit) ≡ map (rowChargeIn (now (b .entry)) (now (q .entry))) (flowgateRows (caseOf (now (b .entry))) ++ limitRows (caseOf (now (b .entry)))) ++ drop (f + r * resourceRowCount) (now (out .entry)) ⌝ }
 {
     write_flowgates(b, q, r, z, f, out);
-    write_resources(b, q, r, z, f, &mut out[f..]);
+    write_resources(b, q, r, z, f, kept, &mut out[f..]);
 }
 
-pub fn write_row_charges(b: &[u8], q: &[u8], r: usize, z: usize, f: usize, out: &mut [i64])
-    requires { ⌜ Standing (now b) (now q) r z f × (rowCountOf r z f ≤ length (now out)) ⌝ }
+pub fn write_row_charges(
+    b: &[u8],
+    q: &[u8],
+    r: usize,
+    z: usize,
+    f: usize,
+    kept: &[i32],
+    out: &mut [i64],
+)
+    requires { ⌜ Standing (now b) (now q) r z f × ((rowCountOf r z f ≤ length (now out)) × Kept (caseOf (now b)) r (now kept)) ⌝ }
     ensures { λ _. ⌜ now (out .exit) ≡ map (rowCharge (caseOf (now (b .entry))) (certificateOf (now (q .entry)) .amount) (certificateOf (now (q .entry)) .price)) (rows (caseOf (now (b .entry)))) ++ drop (rowCountOf r z f) (now (out .entry)) ⌝ }
 {
     let at = SYSTEM_ROWS + z * ZONE_ROWS;
-    let have = reserves::totals(b, q, r, z, f);
+    let have = reserves::totals(b, q, r, z, f, kept);
     let in_zones = have.zones;
     write_system(b, q, r, z, f, have.market, out);
     write_zones(b, q, r, z, f, in_zones, &mut out[SYSTEM_ROWS..]);
-    write_network(b, q, r, z, f, &mut out[at..]);
+    write_network(b, q, r, z, f, kept, &mut out[at..]);
 }

@@ -63,10 +63,6 @@ module _ {b q : List ℕ} {r z f : ℕ} (s : Standing b q r z f) where
         s .prices .case-bytes .counts .most-resources,
       )
 
-  -- ---- a resource's record
-  pub resource-ranged : (i : ℕ) → i < r → Ranged (recordOf (caseOf b .resource i))
-  resource-ranged i h = valid-resource b (s .prices .valid) i (resource-below (s .prices) h)
-
 -- ---- the rows family by family
 module _ (c : Case) where
   zone-rows-long : length (zoneRows c) ≡ c .zones * zoneRowCount

@@ -17,6 +17,7 @@ ghost use Rattle.market.specs.Refusals.{foundAt, firstFailing};
 ghost use Rattle.market.specs.Outcome.{rowMet};
 ghost use Rattle.case_records.specs.Places.{ZoneIn};
 ghost use Rattle.certificate_records.specs.CertificateBytes.{CertificateBytes};
+ghost use Rattle.capabilities.specs.Kept.{Kept};
 ghost use Rattle.prices.specs.Standing.{Standing, SmallAmounts};
 ghost use Rattle.reserves.specs.Given.{marketTotal, zoneTotal, zoneTotals};
 ghost use Rattle.rows.specs.Tests.{firstFalse, shortTests, limitTests, EnergyBounded, brokenFrom, mostRow, mostFirstLimit, Numbered, firstZoneRow};
@@ -236,24 +237,40 @@ fn first_outside(a: Amounts, l: ResourceLimits, first: u32) -> First
 }
 
 // The five rows of resource i, numbered from `first`.
-fn resource_outside(b: &[u8], q: &[u8], r: usize, z: usize, f: usize, i: usize, first: u32) -> First
-    requires { ⌜ Standing (now b) (now q) r z f × ((i < r) × Numbered mostRow first) ⌝ }
+fn resource_outside(
+    b: &[u8],
+    q: &[u8],
+    r: usize,
+    z: usize,
+    f: usize,
+    i: usize,
+    kept: &[i32],
+    first: u32,
+) -> First
+    requires { ⌜ Standing (now b) (now q) r z f × ((i < r) × (Numbered mostRow first × Kept (caseOf (now b)) r (now kept))) ⌝ }
     ensures { λ n. ⌜ foundAt RowBroken n ≡ brokenFrom (now (b .entry)) (now (q .entry)) first (map (Limited i) limits) ⌝ }
 {
-    let resource = case_reader::resource_at(b, r, z, f, i);
-    let own = limits::limits_of(resource);
+    let own = capabilities::limits_at(kept, i);
     let a = certificate_records::amounts_at(q, r, z, f, i);
     first_outside(a, own, first)
 }
 
-fn resources_outside(b: &[u8], q: &[u8], r: usize, z: usize, f: usize, first: u32) -> First
-    requires { ⌜ Standing (now b) (now q) r z f × Numbered mostFirstLimit first ⌝ }
+fn resources_outside(
+    b: &[u8],
+    q: &[u8],
+    r: usize,
+    z: usize,
+    f: usize,
+    kept: &[i32],
+    first: u32,
+) -> First
+    requires { ⌜ Standing (now b) (now q) r z f × (Numbered mostFirstLimit first × Kept (caseOf (now b)) r (now kept)) ⌝ }
     ensures { λ n. ⌜ foundAt RowBroken n ≡ brokenFrom (now (b .entry)) (now (q .entry)) first (limitRows (caseOf (now (b .entry)))) ⌝ }
 {
     let mut row = first;
     let mut i: usize = 0;
     while i < r {
-        let n = resource_outside(b, q, r, z, f, i, row);
+        let n = resource_outside(b, q, r, z, f, i, kept, row);
         let First::None = n else {
             return n;
         };
@@ -266,8 +283,8 @@ fn resources_outside(b: &[u8], q: &[u8], r: usize, z: usize, f: usize, first: u3
 // ---- all rows
 
 // The first broken row of a flowgate or of a resource.
-fn network_broken(b: &[u8], q: &[u8], r: usize, z: usize, f: usize) -> First
-    requires { ⌜ Standing (now b) (now q) r z f ⌝ }
+fn network_broken(b: &[u8], q: &[u8], r: usize, z: usize, f: usize, kept: &[i32]) -> First
+    requires { ⌜ Standing (now b) (now q) r z f × Kept (caseOf (now b)) r (now kept) ⌝ }
     ensures { λ n. ⌜ foundAt RowBroken n ≡ brokenFrom (now (b .entry)) (now (q .entry)) (firstZoneRow + z * zoneRowCount) (flowgateRows (caseOf (now (b .entry))) ++ limitRows (caseOf (now (b .entry)))) ⌝ }
 {
     let first = FIRST_ZONE_ROW + z as u32 * NUMBERS_A_ZONE;
@@ -275,18 +292,18 @@ fn network_broken(b: &[u8], q: &[u8], r: usize, z: usize, f: usize) -> First
     let First::None = n else {
         return n;
     };
-    resources_outside(b, q, r, z, f, first + f as u32)
+    resources_outside(b, q, r, z, f, kept, first + f as u32)
 }
 
 // The first broken row of all.
-pub fn first_broken(b: &[u8], q: &[u8], r: usize, z: usize, f: usize) -> First
-    requires { ⌜ Standing (now b) (now q) r z f ⌝ }
+pub fn first_broken(b: &[u8], q: &[u8], r: usize, z: usize, f: usize, kept: &[i32]) -> First
+    requires { ⌜ Standing (now b) (now q) r z f × Kept (caseOf (now b)) r (now kept) ⌝ }
     ensures { λ n. ⌜ foundAt RowBroken n ≡ firstFailing (rowMet (caseOf (now (b .entry))) (certificateOf (now (q .entry)))) RowBroken 1 (rows (caseOf (now (b .entry)))) ⌝ }
 {
     if !balanced(b, q, r, z, f) {
         return First::At(1);
     }
-    let have = reserves::totals(b, q, r, z, f);
+    let have = reserves::totals(b, q, r, z, f, kept);
     let market = market_short(b, q, r, z, f, have.market);
     let First::None = market else {
         return market;
@@ -296,5 +313,5 @@ pub fn first_broken(b: &[u8], q: &[u8], r: usize, z: usize, f: usize) -> First
     let First::None = zones else {
         return zones;
     };
-    network_broken(b, q, r, z, f)
+    network_broken(b, q, r, z, f, kept)
 }

@@ -31,7 +31,7 @@ returns-2 c =
     let above = c .before .before .before in
     let s = above .before .before .before .before .before in
     let none : above .cleared-above .result ≡ None = cc in
-    among-provided (withinBound (caseOf (s .args .b .now)) (certificateOf (s .args .q .now))) (caseOf (s .args .b .now)) _ (above .cleared-above .result) (c .first-provided-above .result) (resources-is (s .pre .case-bytes)) (found above) none (c .first-provided-above .ensures)
+    among-provided (withinBound (caseOf (s .args .b .now)) (certificateOf (s .args .q .now))) (caseOf (s .args .b .now)) _ (above .cleared-above .result) (c .first-provided-above .result) (resources-is (s .pre .0 .case-bytes)) (found above) none (c .first-provided-above .ensures)
 
 pub first-above-spec : {M : Type 1} → statement M
 first-above-spec =

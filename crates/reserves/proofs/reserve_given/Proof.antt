@@ -7,7 +7,6 @@ use Rattle.market.specs.Certificate.{certificateOf}
 use Rattle.market.specs.Rows.{isSpinning}
 use Rattle.market.specs.InWords.{kwOf, reserveOf}
 use Rattle.market.specs.Records.{kw, recordOf, stateOf, amountsOf, curveAmountsOf}
-use Rattle.limits.proofs.Fields.{state-is}
 use Rattle.prices.proofs.Known.{amounts-small}
 use Rattle.reserves.specs.Given.{zonedAmountsOf}
 use Rattle.reserves.proofs.Known.{spin-small, given-is}
@@ -22,13 +21,12 @@ spin-is : (c : tie.After-spinning) →
 unfolding amountsOf
 spin-is c =
     let s = c .before .before .before .before .before in
-    c .spinning .ensures (caseOf (s .args .b .now) .resource (s .args .i)) (state-is _ (c .before .before .resource-at .ensures))
-    ∙ rw (c .before .amounts-at .ensures)
+    c .spinning .ensures ∙ rw (s .pre .1 .1, c .before .amounts-at .ensures)
 
 given-requires : tie.Need-given-requires
 given-requires c κs =
     let s = c .before .before .before .before .before in
-    rw (spin-is c, c .before .amounts-at .ensures) (amounts-small (s .pre .0) (s .args .i) (s .pre .1), spin-small (s .pre .0) (s .args .i) (s .pre .1))
+    rw (spin-is c, c .before .amounts-at .ensures) (amounts-small (s .pre .0) (s .args .i) (s .pre .1 .0), spin-small (s .pre .0) (s .args .i) (s .pre .1 .0))
 
 amounts-are : (c : tie.After-given) →
     let s = c .before .before .before .before .before .before in

@@ -19,7 +19,7 @@ returns c =
     let cs = caseOf (s .args .b .now) in
     let h = rowChargeIn (s .args .b .now) (s .args .q .now) in
     rw (map-append h (flowgateRows cs) (limitRows cs))
-    (write-on (map h (flowgateRows cs)) (map h (limitRows cs)) (s .args .out .now) (c .before .before .before .before .write-flowgates .last .1 .1 .1 .1 .1 .0) (c .before .write-resources .last .1 .1 .1 .1 .1 .0) (s .args .f) (s .args .r * 5) (s .args .f)
+    (write-on (map h (flowgateRows cs)) (map h (limitRows cs)) (s .args .out .now) (c .before .before .before .before .write-flowgates .last .1 .1 .1 .1 .1 .0) (c .before .write-resources .last .1 .1 .1 .1 .1 .1 .0) (s .args .f) (s .args .r * 5) (s .args .f)
     (flowgate-count h cs (flowgates-is (s .pre .0 .prices .case-bytes))) refl (omega arith) (c .before .before .before .before .write-flowgates .ensures) (c .before .write-resources .ensures))
 
 pub write-network-spec : {M : Type 1} → statement M

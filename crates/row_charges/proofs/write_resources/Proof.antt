@@ -17,10 +17,10 @@ use Rattle.row_charges.proofs.write_resources.Statement.{statement}
 use Rattle.row_charges.proofs.write_resources.Tie as tie
 
 abbrev Inv-loop : tie.InvT-loop
-Inv-loop b q r z f out₀ i₀ at₀ out i at = (i ≤ r) × (at ≡ i * resourceRowCount) × (length out ≡ length out₀) × (out ≡ map (rowChargeIn b q) (across (λ k. map (Limited k) limits) (upto i)) ++ drop (i * resourceRowCount) out₀)
+Inv-loop b q r z f kept out₀ i₀ at₀ out i at = (i ≤ r) × (at ≡ i * resourceRowCount) × (length out ≡ length out₀) × (out ≡ map (rowChargeIn b q) (across (λ k. map (Limited k) limits) (upto i)) ++ drop (i * resourceRowCount) out₀)
 
 abbrev μ-loop : tie.MeasureT-loop
-μ-loop b q r z f out₀ i₀ at₀ out i at = r - i
+μ-loop b q r z f kept out₀ i₀ at₀ out i at = r - i
 
 loop-holds : tie.Need-loop-holds Inv-loop μ-loop
 unfolding upto across
@@ -29,16 +29,16 @@ loop-holds c = search needs
 write-resource-requires : tie.Need-write-resource-requires Inv-loop μ-loop
 write-resource-requires c κs =
     let s = c .before .before .before .before .before in
-    (s .pre .0, (omega arith, rw (rest-length (c .before .before .loop .at) (c .before .before .loop .out)) (omega arith)))
+    (s .pre .0, (omega arith, (rw (rest-length (c .before .before .loop .at) (c .before .before .loop .out)) (omega arith), s .pre .1 .1)))
 
 loop-again : tie.Need-loop-again Inv-loop μ-loop
 loop-again c =
     let s = c .before .before .before .before .before .before .before in
     let l = c .before .before .before .before .loop in
-    let last = c .before .write-resource .last .1 .1 .1 .1 .1 .1 .0 in (
+    let last = c .before .write-resource .last .1 .1 .1 .1 .1 .1 .1 .0 in (
       omega arith,
       omega arith,
-      same-len-mid (l .at) (length (l .out) - l .at) (l .out) last (c .before .write-resource .kept .1 .1 .1 .1 .1 .1 .0) ∙ l .inv .2,
+      same-len-mid (l .at) (length (l .out) - l .at) (l .out) last (c .before .write-resource .kept .1 .1 .1 .1 .1 .1 .1 .0) ∙ l .inv .2,
       block-written (rowChargeIn (s .args .b .now) (s .args .q .now)) (λ k. map (Limited k) limits) resourceRowCount (λ k. refl) (l .i) (l .at) (s .args .out .now) (l .out) last (l .inv .1) (omega arith) (l .inv .3) (c .before .write-resource .ensures),
     )
 

@@ -40,6 +40,9 @@ zones-written c =
     write-on (map h (Balance ∷ marketRows)) (map h (zoneRows (caseOf (s .args .b .now)))) (s .args .out .now) (c .before .before .before .before .write-system .last .1 .1 .1 .1 .1 .1 .0) (c .before .write-zones .last .1 .1 .1 .1 .1 .1 .0)
     systemRowCount (s .args .z * zoneRowCount) systemRowCount refl refl (omega arith) (c .before .before .before .before .write-system .ensures) (c .before .write-zones .ensures)
 
+write-network-requires : tie.Need-write-network-requires
+write-network-requires c κs = let s = c .before .before .before .before .before .before .before .before .before .before .before in (s .pre .0, (search needs, s .pre .1 .1))
+
 returns : tie.Need-returns
 returns c =
     let s = c .before .before .before .before .before .before .before .before .before .before .before .before .before in
@@ -47,7 +50,7 @@ returns c =
     let h = rowChargeIn (s .args .b .now) (s .args .q .now) in
     let first = c .before .before .before .before .before .before .before .write-system .last .1 .1 .1 .1 .1 .1 .0 in
     let out = putMid systemRowCount (length first - systemRowCount) first (c .before .before .before .before .write-zones .last .1 .1 .1 .1 .1 .1 .0) in
-    write-on (map h (Balance ∷ marketRows) ++ map h (zoneRows cs)) (map h (flowgateRows cs ++ limitRows cs)) (s .args .out .now) out (c .before .write-network .last .1 .1 .1 .1 .1 .0)
+    write-on (map h (Balance ∷ marketRows) ++ map h (zoneRows cs)) (map h (flowgateRows cs ++ limitRows cs)) (s .args .out .now) out (c .before .write-network .last .1 .1 .1 .1 .1 .1 .0)
     (systemRowCount + s .args .z * zoneRowCount) (s .args .f + s .args .r * resourceRowCount) (systemRowCount + s .args .z * zoneRowCount)
     (zone-count h cs (zones-is (s .pre .0 .prices .case-bytes))) refl (omega arith) (zones-written (c .before .before .before)) (c .before .write-network .ensures)
     ∙ all-written h cs (s .args .z) (s .args .f) (s .args .r) (s .args .out .now)
@@ -68,6 +71,6 @@ write-row-charges-spec =
     (λ c. search needs)
     (λ c. search needs)
     (λ c. search needs)
-    (λ c κs. search needs)
+    write-network-requires
     (λ c. search needs)
     returns)

@@ -18,7 +18,7 @@ returns : tie.Need-returns
 returns c = let s = c .before .before .before .before in balance-broken (rowMet (caseOf (s .args .b .now)) (certificateOf (s .args .q .now))) RowBroken (caseOf (s .args .b .now)) (told-false (c .before .balanced .ensures) (c .if1 .taken))
 
 market-short-requires : tie.Need-market-short-requires
-market-short-requires c κs = let s = c .before .before .before .before .before in (s .pre, ap (λ (v : ReserveTotals). v .market) (c .totals .ensures))
+market-short-requires c κs = let s = c .before .before .before .before .before in (s .pre .0, ap (λ (v : ReserveTotals). v .market) (c .totals .ensures))
 
 -- row 1 is met
 balance-met : (c : tie.Else1) → let s = c .before .before .before .before in rowMet (caseOf (s .args .b .now)) (certificateOf (s .args .q .now)) Balance ≡ true
@@ -38,7 +38,7 @@ returns-2 c =
 zones-short-requires : tie.Need-zones-short-requires
 zones-short-requires c κs =
     let m = c .before .before .before in
-    (m .before .before .before .before .before .before .pre, ap (λ (v : ReserveTotals). v .zones) (m .before .totals .ensures))
+    (m .before .before .before .before .before .before .pre .0, ap (λ (v : ReserveTotals). v .zones) (m .before .totals .ensures))
 
 returns-3 : tie.Need-returns-3
 returns-3 c =
@@ -49,15 +49,18 @@ returns-3 c =
     zone-broken (rowMet (caseOf (s .args .b .now)) (certificateOf (s .args .q .now))) RowBroken (caseOf (s .args .b .now)) (balance-met (m .before .before)) (m .market-short .result) (market-met (z .before .before)) (m .market-short .ensures)
     (z .zones-short .result) _ at (z .zones-short .ensures)
 
+-- and the zones'
+zones-met : (c : tie.After-enum-told3) → c .before .before .zones-short .result ≡ None
+zones-met c = cc
+
 returns-4 : tie.Need-returns-4
 returns-4 c =
     let z = c .before .before .before in
     let m = z .before .before .before .before in
     let s = m .before .before .before .before .before .before in
-    let none : z .zones-short .result ≡ None = cc in
     rest-broken (rowMet (caseOf (s .args .b .now)) (certificateOf (s .args .q .now))) RowBroken (caseOf (s .args .b .now)) (balance-met (m .before .before)) (m .market-short .result) (market-met (z .before .before)) (m .market-short .ensures)
-    (z .zones-short .result) (c .network-broken .result) none (z .zones-short .ensures)
-    (rw (zones-is (s .pre .prices .case-bytes)) at (c .network-broken .ensures))
+    (z .zones-short .result) (c .network-broken .result) (zones-met (c .before)) (z .zones-short .ensures)
+    (rw (zones-is (s .pre .0 .prices .case-bytes)) at (c .network-broken .ensures))
 
 pub first-broken-spec : {M : Type 1} → statement M
 first-broken-spec =

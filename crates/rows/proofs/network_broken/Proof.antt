@@ -24,7 +24,7 @@ returns-2 c =
     let s = c .before .before .before .before .before .before in
     let none : c .before .before .before .flowgates-over .result ≡ None = cc in
     limit-broken (rowMet (caseOf (s .args .b .now)) (certificateOf (s .args .q .now))) RowBroken (caseOf (s .args .b .now)) (firstZoneRow + s .args .z * zoneRowCount) (c .before .before .before .flowgates-over .result) (c .resources-outside .result) none (c .before .before .before .flowgates-over .ensures)
-    (rw (flowgates-is (s .pre .prices .case-bytes)) at (c .resources-outside .ensures))
+    (rw (flowgates-is (s .pre .0 .prices .case-bytes)) at (c .resources-outside .ensures))
 
 pub network-broken-spec : {M : Type 1} → statement M
 network-broken-spec =

@@ -18,16 +18,16 @@ use Rattle.rows.proofs.resources_outside.Statement.{statement}
 use Rattle.rows.proofs.resources_outside.Tie as tie
 
 abbrev Inv-loop : tie.InvT-loop
-Inv-loop b q r z f first row₀ i₀ row i = (i ≤ r) × (row ≡ first + i * resourceRowCount) × (firstFailing (rowMet (caseOf b) (certificateOf q)) RowBroken first (across (λ i. map (Limited i) limits) (upto i)) ≡ clear)
+Inv-loop b q r z f kept first row₀ i₀ row i = (i ≤ r) × (row ≡ first + i * resourceRowCount) × (firstFailing (rowMet (caseOf b) (certificateOf q)) RowBroken first (across (λ i. map (Limited i) limits) (upto i)) ≡ clear)
 
 abbrev μ-loop : tie.MeasureT-loop
-μ-loop b q r z f first row₀ i₀ row i = r - i
+μ-loop b q r z f kept first row₀ i₀ row i = r - i
 
 loop-holds : tie.Need-loop-holds Inv-loop μ-loop
 loop-holds c = let s = c .before .before in (omega arith, omega arith, search-none (rowMet (caseOf (s .args .b .now)) (certificateOf (s .args .q .now))) RowBroken (λ i. map (Limited i) limits) resourceRowCount (λ i. refl) (s .args .first))
 
 resource-outside-requires : tie.Need-resource-outside-requires Inv-loop μ-loop
-resource-outside-requires c κs = let s = c .before .before .before .before in (s .pre .0, (omega arith, record { to = omega (arith, s .pre .0 .prices .case-bytes .counts .most-resources) }))
+resource-outside-requires c κs = let s = c .before .before .before .before in (s .pre .0, (omega arith, (record { to = omega (arith, s .pre .0 .prices .case-bytes .counts .most-resources) }, s .pre .1 .1)))
 
 -- what is found there, by the row's number
 told : (c : tie.After-resource-outside Inv-loop μ-loop) →
