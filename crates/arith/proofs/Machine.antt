@@ -1,7 +1,8 @@
 -- Signed 64-bit numbers as the machine holds them: a number's bits, and tests on signed numbers.
-use mathlib.Core.Path.{_≡_, refl}
+use mathlib.Core.Path.{_≡_, refl, sym, ap, _∙_}
 use mathlib.Core.Bool.{Bool, true, false, not}
 use Prim.Native.Nat.{ℕ, _<_, _^_}
+use native.Mathlib.Omega.{arith}
 use lib.Dec.{ltb, leb}
 use lib.IntN.{ℤ, pos, negsuc}
 use lib.Signed.{ltZ, leZ, mag}
@@ -18,6 +19,10 @@ small-bits n h = toZ-pos w64 h
 -- a signed number read back from its bits: what a field of a struct tells of itself
 pub read-back : {z : ℤ} → mag z < 2 ^ hbits w64 → toZ w64 (ofZ w64 z) ≡ z
 read-back h = toZ-ofZ (sfits-of {w = w64} h)
+
+-- one whose bits are 0
+pub zero-bits : {z : ℤ} → mag z < 2 ^ hbits w64 → ofZ w64 z ≡ 0 → z ≡ pos 0
+zero-bits h e = sym (read-back h) ∙ ap (toZ w64) e ∙ small-bits 0 (omega arith)
 
 -- 'at most' is 'not above'
 leb-by : (a b : ℕ) (t : Bool) → ltb b a ≡ t → leb a b ≡ not t
