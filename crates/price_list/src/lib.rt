@@ -1,31 +1,17 @@
 // The numbers of the call for prices, written into a lent buffer: R LMPs, then four prices for each zone. What stands
 // beyond them stays as it was.
 ghost use mathlib.Core.Path.{_≡_};
-ghost use mathlib.Core.List.{map, _++_};
-ghost use Prim.Native.Nat.{_+_, _*_, _≤_};
+ghost use mathlib.Core.List.{_++_};
+ghost use Prim.Native.Nat.{_*_, _≤_};
 ghost use lib.ListN.{length, drop};
 ghost use Rattle.arith.specs.Sums.{upto, across};
 ghost use Rattle.market.specs.CaseFile.{caseOf};
 ghost use Rattle.market.specs.Certificate.{certificateOf};
-ghost use Rattle.market.specs.Prices.{LMP, zonePrices, priceList, zonePriceCount, priceCount, priceCountOf};
+ghost use Rattle.market.specs.Prices.{zonePrices, priceList, zonePriceCount, priceCount, priceCountOf};
 ghost use Rattle.prices.specs.Standing.{PricesStand, Standing};
 ghost use Rattle.price_list.specs.Numbers.{numbersOf};
 use market::ZONE_PRICES;
 use prices::ZonePrices;
-
-// The LMP of each resource, in order.
-fn write_lmps(b: &[u8], q: &[u8], r: usize, z: usize, f: usize, out: &mut [i64])
-    requires { ⌜ PricesStand (now b) (now q) r z f × (r ≤ length (now out)) ⌝ }
-    ensures { λ _. ⌜ now (out .exit) ≡ map (LMP (caseOf (now (b .entry))) (certificateOf (now (q .entry)) .price)) (upto r) ++ drop r (now (out .entry)) ⌝ }
-{
-    let mut i: usize = 0;
-    while i < r {
-        let price = prices::lmp(b, q, r, z, f, i);
-        let number = price.0;
-        out[i] = number;
-        i += 1;
-    }
-}
 
 // A zone's regulating, spinning, supplemental and short-term price.
 fn write_zone(p: ZonePrices, out: &mut [i64])
@@ -61,6 +47,6 @@ pub fn write_prices(b: &[u8], q: &[u8], r: usize, z: usize, f: usize, out: &mut 
     requires { ⌜ Standing (now b) (now q) r z f × (priceCountOf r z ≤ length (now out)) ⌝ }
     ensures { λ _. ⌜ now (out .exit) ≡ priceList (caseOf (now (b .entry))) (certificateOf (now (q .entry)) .price) ++ drop (priceCount (caseOf (now (b .entry)))) (now (out .entry)) ⌝ }
 {
-    write_lmps(b, q, r, z, f, out);
+    prices::write_lmps(b, q, r, z, f, out);
     write_zones(b, q, r, z, f, &mut out[r..]);
 }
