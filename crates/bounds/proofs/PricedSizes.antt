@@ -1,4 +1,4 @@
--- The offers and upper bounds of a resource and the steps of a curve are small enough for their part of the bound.
+-- The offers of a resource and the steps of a curve are small enough for their part of the bound.
 use mathlib.Core.Path.{_≡_}
 use Prim.Native.Nat.{ℕ, suc, _+_, _<_, _≤_}
 use native.Mathlib.Nat.{le-refl}
@@ -11,15 +11,12 @@ use Rattle.arith.proofs.NaturalSums.{total-mono, total-suc, total-longer}
 use Rattle.market.specs.Case.{Case, energySteps, curveSteps}
 use Rattle.market.specs.declared.CurveSteps.{CurveSteps}
 use Rattle.market.specs.declared.OfferSteps.{OfferSteps}
-use Rattle.market.specs.UpperBounds.{regulation, contingency, onLineShortTerm, offLineShortTerm}
 use Rattle.market.specs.Records.{offerStepOf, offerStepsOf}
 use Rattle.market.proofs.Ranges.{CaseRanges}
-use Rattle.market.proofs.LimitSizes.{service-most}
 use Rattle.market.proofs.AmountSizes.{widths-total}
 use Rattle.case_records.specs.Ranged.{offerStep, curveStep, RangedCurve}
 use Rattle.case_records.proofs.Ranged.{offer-step-is}
-use Rattle.limits.specs.Together.{reserveBoundsOf}
-use Rattle.bounds.specs.Sizes.{SmallBounds, SmallStep, SmallSteps, stepsWidth}
+use Rattle.bounds.specs.Sizes.{SmallStep, SmallSteps, stepsWidth}
 use Rattle.market.specs.Sizes.{mostPower, mostCurveWidth}
 
 module _ (c : Case) (h : CaseRanges c) (i : ℕ) (n : i < c .resources) where
@@ -36,17 +33,6 @@ module _ (c : Case) (h : CaseRanges c) (i : ℕ) (n : i < c .resources) where
               widths-total (r .stepWidth) energySteps,
               h .resource i n .widths-to,
             );
-      }
-
-  pub bounds-small : SmallBounds (reserveBoundsOf c (c .resource i))
-  unfolding reserveBoundsOf
-  bounds-small =
-      let most = service-most (h .resource i n) c in
-      record {
-        regulation = most regulation;
-        contingency = most contingency;
-        on-line-short-term = most onLineShortTerm;
-        off-line-short-term = most offLineShortTerm;
       }
 
 -- the steps of an offer: widths so far, and with one more; a step by its number

@@ -24,7 +24,7 @@ use Rattle.limits.specs.Together.{limitsOf}
 use Rattle.prices.specs.Standing.{PricesStand}
 use Rattle.prices.proofs.Known.{case-ranges, balance-size, flowgate-size, limit-size}
 use Rattle.units.specs.Room.{ProductRoom}
-use Rattle.bounds.specs.Sizes.{mostFlowgateTerm, RowRoom, SmallRequirements, SmallLimits}
+use Rattle.bounds.specs.Sizes.{mostFlowgateTerm, RowRoom, SmallRequirements}
 use Rattle.bounds.specs.Terms.{rowTerm, zoneTerms, flowgateTerm, limitTerms, zoneValue, limitValue}
 
 pub over-curves : (f : Curve → ℤ) → f operating +ℤ (f regulatingPlusSpinning +ℤ (f regulating +ℤ f shortTerm)) ≡ sumOf f curves
@@ -41,17 +41,6 @@ module _ (c : Case) (h : CaseRanges c) where
         regulating-plus-spinning = h .zone-requirement z regulatingPlusSpinning n;
         regulating = h .zone-requirement z regulating n;
         short-term = h .zone-requirement z shortTerm n;
-      }
-
-  pub limits-small : (i : ℕ) → i < c .resources → SmallLimits (limitsOf (c .resource i))
-  unfolding limitsOf rightSide
-  limits-small i n =
-      let r = c .resource i in
-      record {
-        max = omega (arith, right-size c h (Limited i maxWithReserve) n .le, abs-neg (pos (MAX r)));
-        min = right-size c h (Limited i minimum) n .le;
-        high = omega (arith, right-size c h (Limited i high) n .le, abs-neg (pos (HI r)));
-        low = right-size c h (Limited i low) n .le;
       }
 
 -- ---- what the records make

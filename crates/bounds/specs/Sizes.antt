@@ -16,8 +16,6 @@ use Rattle.market.specs.UpperBounds.{Service, energy, regulation, contingency, 
 use Rattle.market.specs.Rows.{maxWithReserve, maxWithShortTerm, minimum, high, low}
 use Rattle.market.specs.Sizes.{mostPower, mostCents, mostDemand, mostCurveWidth, mostZoneRequirement, mostFlowgateLimit, mostLimit, mostPrice, mostServiceNet, mostCurveNet}
 use Rattle.case_records.specs.Ranged.{offerStep}
-use Rattle.limits.specs.declared.ReserveBounds.{ReserveBounds}
-use Rattle.limits.specs.declared.ResourceLimits.{ResourceLimits}
 use Rattle.net_prices.specs.Sizes.{SmallOffer, SmallPrice}
 use Rattle.bounds.specs.Terms.{required}
 
@@ -78,18 +76,6 @@ pub record SmallRequirements (requirements : ZoneRequirements) : Type 0 where
   pub regulating-plus-spinning : natAbs (required requirements 1) ≤ mostZoneRequirement
   pub regulating : natAbs (required requirements 2) ≤ mostZoneRequirement
   pub short-term : natAbs (required requirements 3) ≤ mostZoneRequirement
-
-pub record SmallLimits (limits : ResourceLimits) : Type 0 where
-  pub max : natAbs (limits .max .0) ≤ mostLimit maxWithReserve
-  pub min : natAbs (limits .min .0) ≤ mostLimit minimum
-  pub high : natAbs (limits .high .0) ≤ mostLimit high
-  pub low : natAbs (limits .low .0) ≤ mostLimit low
-
-pub record SmallBounds (bounds : ReserveBounds) : Type 0 where
-  pub regulation : natAbs (bounds .regulation .0) ≤ mostPower
-  pub contingency : natAbs (bounds .contingency .0) ≤ mostPower
-  pub on-line-short-term : natAbs (bounds .«on_line_short_term» .0) ≤ mostPower
-  pub off-line-short-term : natAbs (bounds .«off_line_short_term» .0) ≤ mostPower
 
 -- a step, of a resource or of a curve, at most so wide
 pub record SmallStep (step : Step) (widest : ℕ) : Type 0 where

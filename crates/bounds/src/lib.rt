@@ -1,42 +1,36 @@
 // The bound that a certificate's prices give (01, 'Certificate, cost, bound, charges'): the sum over rows of row price ×
 // right side, and the sum over what is priced of the lesser of 0 and net price × upper bound. Every sum says how large it
-// can be (specs/Sizes.antt), so that the next one fits.
+// can be (specs/Sizes.antt), so that the next one fits. What the resources add is summed in `valuations`, with the cost.
 ghost use mathlib.Core.Path.{_≡_};
 ghost use Prim.Native.Nat.{_+_, _*_, _<_, _≤_};
 ghost use lib.IntN.{natAbs, _+ℤ_, _-ℤ_, _*ℤ_};
 ghost use Rattle.arith.specs.Sums.{sumOf, upto, across};
-ghost use Rattle.market.specs.Case.{Resource as Figures, curves};
+ghost use Rattle.market.specs.Case.{curves};
 ghost use Rattle.market.specs.CaseFile.{caseOf};
-ghost use Rattle.market.specs.Availability.{availabilityOf};
 ghost use Rattle.market.specs.Rows.{Balance};
 ghost use Rattle.market.specs.Certificate.{certificateOf};
 ghost use Rattle.market.specs.Cost.{curvePriced};
 ghost use Rattle.market.specs.Bound.{bound};
-ghost use Rattle.market.specs.Outcome.{Valid};
-ghost use Rattle.market.specs.Records.{grains, recordOf};
+ghost use Rattle.market.specs.Records.{grains};
 ghost use Rattle.market.specs.CaseCheck.{mostResources, mostZones, mostFlowgates};
 ghost use Rattle.market.specs.UpperBounds.{energy};
 ghost use Rattle.market.specs.Sizes.{mostPower, mostCurveWidth, mostPrice, mostServiceNet};
-ghost use Rattle.case_records.specs.Places.{HeadIn};
-ghost use Rattle.case_records.specs.Ranged.{Ranged, RangedCurve, offerStep, curveStep};
-ghost use Rattle.limits.specs.Together.{reserveBoundsOf};
+ghost use Rattle.case_records.specs.Ranged.{RangedCurve, curveStep};
+ghost use Rattle.capabilities.specs.Sizes.{SmallLimits, SmallBounds};
 ghost use Rattle.units.specs.Room.{SumRoom, ProductRoom};
 ghost use Rattle.prices.specs.Standing.{PricesStand, Standing};
 ghost use Rattle.prices.specs.ZonePrices.{SmallPrices};
 ghost use Rattle.net_prices.specs.Sizes.{SmallPrice, SmallNets, SmallLimitPrices};
-ghost use Rattle.bounds.specs.Sizes.{mostZoneTerms, mostFlowgateTerm, mostCommonTerms, mostLimitTerms, mostServiceTerm, mostReserveTerms, mostLeastTerms, mostResourceTerms, mostCurveStepTerm, mostCurveTerms, mostCurvesTerms, Figure, RowRoom, SmallRequirements, SmallLimits, SmallBounds, SmallStep, SmallSteps};
-ghost use Rattle.bounds.specs.Terms.{rowTerm, pricedTerm, zoneTerms, flowgateTerm, leastTerms, resourceTerms, zoneValue, limitValue, leastOf, stepBound, stepLeast, reservesLeast, curveStepLeast};
+ghost use Rattle.bounds.specs.Sizes.{mostZoneTerms, mostFlowgateTerm, mostCommonTerms, mostLimitTerms, mostReserveTerms, mostResourceTerms, mostCurveStepTerm, mostCurveTerms, mostCurvesTerms, Figure, RowRoom, SmallRequirements, SmallStep};
+ghost use Rattle.bounds.specs.Terms.{rowTerm, pricedTerm, zoneTerms, flowgateTerm, resourceTerms, zoneValue, limitValue, leastOf, stepBound, stepLeast, reservesLeast, curveStepLeast};
 use limits::ReserveBounds;
 use limits::ResourceLimits;
-use market::Availability;
 use market::CurveSteps;
 use market::Grains;
 use market::Kw;
 use market::LimitPrices;
 use market::Millicents;
-use market::OfferSteps;
 use market::ReservePrices;
-use market::Resource;
 use market::Step;
 use market::Watts;
 use market::ZoneRequirements;
@@ -44,7 +38,7 @@ use net_prices::Nets;
 
 // ---- figures in grains, with how large they can be
 
-fn plus(a: Grains, b: Grains) -> Grains
+pub fn plus(a: Grains, b: Grains) -> Grains
     requires { ⌜ SumRoom (a .0) (b .0) ⌝ }
     ensures { λ g. ⌜ Figure g (a .0 +ℤ b .0) (natAbs (a .0) + natAbs (b .0)) ⌝ }
 {
@@ -144,7 +138,7 @@ fn flowgates_sum(b: &[u8], q: &[u8], r: usize, z: usize, f: usize) -> Grains
 // ---- of resources
 
 // The rows from below less those from above: MAX with reserves, MAX with short-term reserve, HI.
-fn limit_value(prices: LimitPrices, held: ResourceLimits) -> Grains
+pub fn limit_value(prices: LimitPrices, held: ResourceLimits) -> Grains
     requires { ⌜ SmallLimitPrices prices × SmallLimits held ⌝ }
     ensures { λ g. ⌜ Figure g (limitValue prices held) mostLimitTerms ⌝ }
 {
@@ -187,7 +181,7 @@ pub fn step_bound(on: bool, width: Kw) -> Kw
     Kw(0)
 }
 
-fn step_least(prices: Nets, on: bool, step: Step) -> Grains
+pub fn step_least(prices: Nets, on: bool, step: Step) -> Grains
     requires { ⌜ SmallNets prices × SmallStep step mostPower ⌝ }
     ensures { λ g. ⌜ Figure g (stepLeast prices on step) (mostServiceNet energy * natAbs (step .width .0)) ⌝ }
 {
@@ -196,41 +190,9 @@ fn step_least(prices: Nets, on: bool, step: Step) -> Grains
     least_of(net, upper)
 }
 
-fn steps_least(prices: Nets, on: bool, steps: OfferSteps) -> Grains
-    requires { ⌜ SmallNets prices × SmallSteps steps ⌝ }
-    ensures { λ g. ⌜ Figure g (sumOf (λ j. stepLeast prices on (offerStep steps j)) (upto 10)) (mostServiceTerm energy) ⌝ }
-{
-    let mut sum = Grains(0);
-    let mut j: usize = 0;
-    while j < 10 {
-        let step = steps.of[j];
-        let least = step_least(prices, on, step);
-        sum = plus(sum, least);
-        j += 1;
-    }
-    sum
-}
-
 // ---- its reserves
 
-// Their upper bounds.
-pub fn reserve_bounds(
-    b: &[u8],
-    r: usize,
-    z: usize,
-    f: usize,
-    availability: Availability,
-    resource: Resource,
-) -> ReserveBounds
-    requires { ⌜ (HeadIn (now b) × Valid (now b)) × Ranged resource ⌝ }
-    ensures { λ u. ⌜ ((s : Figures) → availability ≡ availabilityOf s → resource ≡ recordOf s → u ≡ reserveBoundsOf (caseOf (now (b .entry))) s) ⌝ }
-{
-    let terms = case_reader::terms_in(b, r, z, f);
-    let most = limits::max_limit(availability.on_line(), resource);
-    limits::reserve_bounds(most, terms, availability, resource)
-}
-
-fn reserves_least(prices: Nets, uppers: ReserveBounds) -> Grains
+pub fn reserves_least(prices: Nets, uppers: ReserveBounds) -> Grains
     requires { ⌜ SmallNets prices × SmallBounds uppers ⌝ }
     ensures { λ g. ⌜ Figure g (reservesLeast prices uppers) mostReserveTerms ⌝ }
 {
@@ -241,56 +203,6 @@ fn reserves_least(prices: Nets, uppers: ReserveBounds) -> Grains
     let last = plus(on_line, off_line);
     let rest = plus(contingency, last);
     plus(regulation, rest)
-}
-
-// Of resource i, whose record has been read: its steps and its reserves.
-fn least_terms(
-    b: &[u8],
-    q: &[u8],
-    r: usize,
-    z: usize,
-    f: usize,
-    i: usize,
-    resource: Resource,
-) -> Grains
-    requires { ⌜ (PricesStand (now b) (now q) r z f × (i < r)) × (resource ≡ recordOf (caseOf (now b) .resource i)) ⌝ }
-    ensures { λ g. ⌜ Figure g (leastTerms (now (b .entry)) (now (q .entry)) i) mostLeastTerms ⌝ }
-{
-    let availability = limits::availability_of(resource);
-    let on = availability.on_line();
-    let prices = net_prices::nets_for(b, q, r, z, f, i, on, resource);
-    let uppers = reserve_bounds(b, r, z, f, availability, resource);
-    let steps = steps_least(prices, on, case_reader::offer_steps_at(b, r, z, f, i));
-    let reserves = reserves_least(prices, uppers);
-    plus(steps, reserves)
-}
-
-// ---- a resource, read once: its rows, and what is priced of it
-
-fn resource_terms(b: &[u8], q: &[u8], r: usize, z: usize, f: usize, i: usize) -> Grains
-    requires { ⌜ PricesStand (now b) (now q) r z f × (i < r) ⌝ }
-    ensures { λ g. ⌜ Figure g (resourceTerms (now (b .entry)) (now (q .entry)) i) mostResourceTerms ⌝ }
-{
-    let prices = certificate_records::limit_prices_at(q, r, z, f, i);
-    let resource = case_reader::resource_at(b, r, z, f, i);
-    let held = limits::limits_of(resource);
-    let rows = limit_value(prices, held);
-    let least = least_terms(b, q, r, z, f, i, resource);
-    plus(rows, least)
-}
-
-fn resources_sum(b: &[u8], q: &[u8], r: usize, z: usize, f: usize) -> Grains
-    requires { ⌜ PricesStand (now b) (now q) r z f ⌝ }
-    ensures { λ g. ⌜ Figure g (sumOf (resourceTerms (now (b .entry)) (now (q .entry))) (upto r)) (mostResources * mostResourceTerms) ⌝ }
-{
-    let mut sum = Grains(0);
-    let mut i: usize = 0;
-    while i < r {
-        let terms = resource_terms(b, q, r, z, f, i);
-        sum = plus(sum, terms);
-        i += 1;
-    }
-    sum
 }
 
 // ---- the steps of the demand curves
@@ -338,12 +250,12 @@ fn curves_least(b: &[u8], q: &[u8], r: usize, z: usize, f: usize) -> Grains
 
 // ---- the bound
 
-pub fn bound(b: &[u8], q: &[u8], r: usize, z: usize, f: usize) -> Grains
-    requires { ⌜ Standing (now b) (now q) r z f ⌝ }
+// Of what the resources add together, `resources`.
+pub fn bound(b: &[u8], q: &[u8], r: usize, z: usize, f: usize, resources: Grains) -> Grains
+    requires { ⌜ Standing (now b) (now q) r z f × Figure resources (sumOf (resourceTerms (now b) (now q)) (upto r)) (mostResources * mostResourceTerms) ⌝ }
     ensures { λ g. ⌜ g ≡ grains (bound (caseOf (now (b .entry))) (certificateOf (now (q .entry)) .price)) ⌝ }
 {
     let common = common_terms(b, q, r, z, f);
-    let resources = resources_sum(b, q, r, z, f);
     let cleared = curves_least(b, q, r, z, f);
     let rest = plus(resources, cleared);
     plus(common, rest)

@@ -33,9 +33,9 @@ use Rattle.net_prices.specs.NetPrices.{netsOf}
 use Rattle.net_prices.specs.Sizes.{SmallNets}
 use Rattle.net_prices.proofs.Known.{nets-small}
 use Rattle.limits.specs.declared.ReserveBounds.{ReserveBounds}
-use Rattle.bounds.specs.Sizes.{SmallBounds}
+use Rattle.capabilities.specs.Sizes.{SmallBounds}
 use Rattle.limits.specs.Together.{reserveBoundsOf}
-use Rattle.bounds.proofs.PricedSizes.{bounds-small}
+use Rattle.capabilities.proofs.Sizes.{bounds-small}
 use Rattle.costs.proofs.Known.{steps-known, energy-known, curve-known, cleared-known}
 use Rattle.charges.specs.declared.ClearedCurve.{ClearedCurve}
 use Rattle.charges.specs.Sizes.{StepsRoom, SmallReserves, ClearedRoom}

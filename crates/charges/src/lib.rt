@@ -12,12 +12,15 @@ ghost use Rattle.market.specs.CaseFile.{caseOf};
 ghost use Rattle.market.specs.Certificate.{certificateOf};
 ghost use Rattle.market.specs.Cost.{curvePriced, priced, resourcePricedCount, curvePricedCount, pricedCountOf};
 ghost use Rattle.market.specs.Charges.{pricedCharge, charges, chargeCount, chargeCountOf};
-ghost use Rattle.market.specs.Records.{grains, curveStepsOf};
+ghost use Rattle.market.specs.Prices.{LMP};
+ghost use Rattle.market.specs.Records.{grains, millicents, curveStepsOf};
 ghost use Rattle.market.specs.Sizes.{mostPower, mostCurveWidth};
 ghost use Rattle.case_records.specs.Places.{CurveIn};
+ghost use Rattle.capabilities.specs.Kept.{Kept};
+ghost use Rattle.capabilities.specs.Sizes.{SmallBounds};
 ghost use Rattle.prices.specs.Standing.{Standing};
+ghost use Rattle.prices.specs.Written.{Lmps};
 ghost use Rattle.net_prices.specs.Sizes.{SmallPrice, SmallNets};
-ghost use Rattle.bounds.specs.Sizes.{SmallBounds};
 ghost use Rattle.charges.specs.Sizes.{ChargeRoom, StepRoom, StepsRoom, SmallReserves, CurveRoom, ClearedRoom};
 ghost use Rattle.charges.specs.Terms.{chargeIn, resourceCharges, chargeOf, stepCharge, energyCharge, reserveCharges, curveStepCharge, curveCharge, clearedCurve, curveCharges};
 use limits::ReserveBounds;
@@ -25,6 +28,7 @@ use market::Amounts;
 use market::CurveSteps;
 use market::Grains;
 use market::Kw;
+use market::MOST_RESOURCES;
 use market::Millicents;
 use market::OfferSteps;
 use market::RESOURCE_PRICED;
@@ -101,31 +105,53 @@ fn write_reserves(prices: Nets, amounts: Amounts, uppers: ReserveBounds, out: &m
     out[3] = fourth;
 }
 
-// The fourteen charges of resource i.
-fn write_resource(b: &[u8], q: &[u8], r: usize, z: usize, f: usize, i: usize, out: &mut [i64])
-    requires { ⌜ (Standing (now b) (now q) r z f × (i < r)) × (resourcePricedCount ≤ length (now out)) ⌝ }
+// The fourteen charges of resource i, its LMP being `lmp`.
+fn write_resource(
+    b: &[u8],
+    q: &[u8],
+    r: usize,
+    z: usize,
+    f: usize,
+    i: usize,
+    kept: &[i32],
+    lmp: Millicents,
+    out: &mut [i64],
+)
+    requires { ⌜ (Standing (now b) (now q) r z f × (i < r)) × ((resourcePricedCount ≤ length (now out)) × Kept (caseOf (now b)) r (now kept)) ⌝ }
+    requires { ⌜ lmp ≡ millicents (LMP (caseOf (now b)) (certificateOf (now q) .price) i) ⌝ }
     ensures { λ _. ⌜ now (out .exit) ≡ resourceCharges (now (b .entry)) (now (q .entry)) i ++ drop resourcePricedCount (now (out .entry)) ⌝ }
 {
     let resource = case_reader::resource_at(b, r, z, f, i);
     let amounts = certificate_records::amounts_at(q, r, z, f, i);
-    let availability = limits::availability_of(resource);
-    let on = availability.on_line();
-    let prices = net_prices::nets_for(b, q, r, z, f, i, on, resource);
-    let uppers = bounds::reserve_bounds(b, r, z, f, availability, resource);
+    let on = capabilities::on_line_at(kept, i);
+    let spins = capabilities::spinning_at(kept, i);
+    let uppers = capabilities::bounds_at(kept, i);
+    let prices = net_prices::nets_for(b, q, r, z, f, i, spins, lmp, resource);
     let steps = case_reader::offer_steps_at(b, r, z, f, i);
     write_steps(prices, on, steps, amounts.energy, out);
     write_reserves(prices, amounts, uppers, &mut out[10..]);
 }
 
-// Each resource's charges, from its own place on.
-fn write_resources(b: &[u8], q: &[u8], r: usize, z: usize, f: usize, out: &mut [i64])
-    requires { ⌜ Standing (now b) (now q) r z f × (r * resourcePricedCount ≤ length (now out)) ⌝ }
+// Each resource's charges, from its own place on, with its LMP.
+fn write_resources(
+    b: &[u8],
+    q: &[u8],
+    r: usize,
+    z: usize,
+    f: usize,
+    kept: &[i32],
+    lmps: &[i64],
+    out: &mut [i64],
+)
+    requires { ⌜ Standing (now b) (now q) r z f × ((r * resourcePricedCount ≤ length (now out)) × Kept (caseOf (now b)) r (now kept)) ⌝ }
+    requires { ⌜ Lmps (now b) (now q) r (now lmps) ⌝ }
     ensures { λ _. ⌜ now (out .exit) ≡ across (resourceCharges (now (b .entry)) (now (q .entry))) (upto r) ++ drop (r * resourcePricedCount) (now (out .entry)) ⌝ }
 {
     let mut i: usize = 0;
     let mut at: usize = 0;
     while i < r {
-        write_resource(b, q, r, z, f, i, &mut out[at..]);
+        let lmp = Millicents(lmps[i]);
+        write_resource(b, q, r, z, f, i, kept, lmp, &mut out[at..]);
         at += RESOURCE_PRICED;
         i += 1;
     }
@@ -222,11 +248,21 @@ fn write_curves(b: &[u8], q: &[u8], r: usize, z: usize, f: usize, out: &mut [i64
 
 // ---- all that is priced
 
-fn write_priced_charges(b: &[u8], q: &[u8], r: usize, z: usize, f: usize, out: &mut [i64])
-    requires { ⌜ Standing (now b) (now q) r z f × (pricedCountOf r ≤ length (now out)) ⌝ }
+fn write_priced_charges(
+    b: &[u8],
+    q: &[u8],
+    r: usize,
+    z: usize,
+    f: usize,
+    kept: &[i32],
+    out: &mut [i64],
+)
+    requires { ⌜ Standing (now b) (now q) r z f × ((pricedCountOf r ≤ length (now out)) × Kept (caseOf (now b)) r (now kept)) ⌝ }
     ensures { λ _. ⌜ now (out .exit) ≡ map (pricedCharge (caseOf (now (b .entry))) (certificateOf (now (q .entry)) .amount) (certificateOf (now (q .entry)) .price)) (priced (caseOf (now (b .entry)))) ++ drop (pricedCountOf r) (now (out .entry)) ⌝ }
 {
-    write_resources(b, q, r, z, f, out);
+    let mut lmps = [0i64; MOST_RESOURCES];
+    prices::write_lmps(b, q, r, z, f, &mut lmps);
+    write_resources(b, q, r, z, f, kept, &lmps, out);
     let at = r * RESOURCE_PRICED;
     write_curves(b, q, r, z, f, &mut out[at..]);
 }
@@ -234,11 +270,19 @@ fn write_priced_charges(b: &[u8], q: &[u8], r: usize, z: usize, f: usize, out: &
 // ---- all charges
 
 // The rows', then those of what is priced.
-pub fn write_charges(b: &[u8], q: &[u8], r: usize, z: usize, f: usize, out: &mut [i64])
-    requires { ⌜ Standing (now b) (now q) r z f × (chargeCountOf r z f ≤ length (now out)) ⌝ }
+pub fn write_charges(
+    b: &[u8],
+    q: &[u8],
+    r: usize,
+    z: usize,
+    f: usize,
+    kept: &[i32],
+    out: &mut [i64],
+)
+    requires { ⌜ Standing (now b) (now q) r z f × ((chargeCountOf r z f ≤ length (now out)) × Kept (caseOf (now b)) r (now kept)) ⌝ }
     ensures { λ _. ⌜ now (out .exit) ≡ charges (caseOf (now (b .entry))) (certificateOf (now (q .entry)) .amount) (certificateOf (now (q .entry)) .price) ++ drop (chargeCount (caseOf (now (b .entry)))) (now (out .entry)) ⌝ }
 {
-    row_charges::write_row_charges(b, q, r, z, f, out);
+    row_charges::write_row_charges(b, q, r, z, f, kept, out);
     let at = SYSTEM_ROWS + z * ZONE_ROWS + f + r * RESOURCE_ROWS;
-    write_priced_charges(b, q, r, z, f, &mut out[at..]);
+    write_priced_charges(b, q, r, z, f, kept, &mut out[at..]);
 }

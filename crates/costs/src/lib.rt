@@ -1,5 +1,6 @@
 // Steps filled in order, and the cost of a certificate's amounts (01, 'Certificate, cost, bound, charges').
-// Amounts at prices in cents are summed as they are; the whole sum is then taken a thousand times, into grains.
+// Amounts at prices in cents are summed as they are; the whole sum is then taken a thousand times, into grains. What the resources
+// are given at their prices is summed in `valuations`, with what they add to the bound.
 ghost use mathlib.Core.Path.{_≡_};
 ghost use Prim.Native.Nat.{_<_, _≤_};
 ghost use lib.IntN.{pos, natAbs, negℤ, _+ℤ_, _*ℤ_};
@@ -10,7 +11,7 @@ ghost use Rattle.market.specs.Certificate.{certificateOf};
 ghost use Rattle.market.specs.Cost.{cost};
 ghost use Rattle.market.specs.Records.{grains};
 ghost use Rattle.market.specs.Fits.{Fits64};
-ghost use Rattle.case_records.specs.Ranged.{UpTo, RangedSteps, RangedCurve, RangedOffers, offerStep, curveStep};
+ghost use Rattle.case_records.specs.Ranged.{UpTo, RangedCurve, RangedOffers, curveStep};
 ghost use Rattle.units.specs.Room.{SumRoom, ProductRoom};
 ghost use Rattle.prices.specs.Standing.{Standing, SmallAmounts};
 ghost use Rattle.costs.specs.Steps.{mostInSteps, fillingOf, stepsWorth};
@@ -20,21 +21,20 @@ use market::Cents;
 use market::CurveSteps;
 use market::Grains;
 use market::Kw;
-use market::OfferSteps;
 use market::ReserveOffers;
 
 // Amounts at prices in cents: a cent per MWh times a kW is a thousand grains.
 pub struct ThousandGrains(pub i64);
 
 // A price in cents times an amount.
-fn worth(a: Cents, b: Kw) -> ThousandGrains
+pub fn worth(a: Cents, b: Kw) -> ThousandGrains
     requires { ⌜ ProductRoom (a .0) (b .0) ⌝ }
     ensures { λ v. ⌜ v ≡ thousands (a .0 *ℤ b .0) ⌝ }
 {
     ThousandGrains(a.0 * b.0)
 }
 
-fn sum(a: ThousandGrains, b: ThousandGrains) -> ThousandGrains
+pub fn sum(a: ThousandGrains, b: ThousandGrains) -> ThousandGrains
     requires { ⌜ SumRoom (a .0) (b .0) ⌝ }
     ensures { λ v. ⌜ v ≡ thousands (a .0 +ℤ b .0) ⌝ }
 {
@@ -75,24 +75,6 @@ pub fn fill(left: Kw, width: Kw) -> Filled
     }
 }
 
-// The energy of a resource at the prices of the steps that it fills.
-fn energy_worth(steps: OfferSteps, energy: Kw) -> ThousandGrains
-    requires { ⌜ RangedSteps steps × UpTo (energy .0) 2000000 ⌝ }
-    ensures { λ v. ⌜ v ≡ thousands (stepsWorth (offerStep steps) (natAbs (energy .0)) 10) ⌝ }
-{
-    let mut total = ThousandGrains(0);
-    let mut left = energy;
-    let mut j: usize = 0;
-    while j < 10 {
-        let step = steps.of[j];
-        let filled = fill(left, step.width);
-        total = sum(total, worth(step.price, filled.part));
-        left = filled.left;
-        j += 1;
-    }
-    total
-}
-
 // The value of a cleared quantity: the prices of the steps of its curve that it fills.
 fn curve_value(curve: CurveSteps, cleared: Kw) -> ThousandGrains
     requires { ⌜ RangedCurve curve × UpTo (cleared .0) mostInSteps ⌝ }
@@ -114,7 +96,7 @@ fn curve_value(curve: CurveSteps, cleared: Kw) -> ThousandGrains
 // ---- the cost
 
 // g, c and o at their prices; s is priced 0.
-fn reserves_worth(offers: ReserveOffers, amounts: Amounts) -> ThousandGrains
+pub fn reserves_worth(offers: ReserveOffers, amounts: Amounts) -> ThousandGrains
     requires { ⌜ RangedOffers offers × SmallAmounts amounts ⌝ }
     ensures { λ v. ⌜ v ≡ thousands (reservesWorth offers amounts) ⌝ }
 {
@@ -122,33 +104,6 @@ fn reserves_worth(offers: ReserveOffers, amounts: Amounts) -> ThousandGrains
     let contingency = worth(offers.contingency, amounts.contingency);
     let short_term = worth(offers.off_line_short_term, amounts.off_line_short_term);
     sum(regulation, sum(contingency, short_term))
-}
-
-// What resource i is given, at its prices.
-fn resource_worth(b: &[u8], q: &[u8], r: usize, z: usize, f: usize, i: usize) -> ThousandGrains
-    requires { ⌜ Standing (now b) (now q) r z f × (i < r) ⌝ }
-    ensures { λ v. ⌜ v ≡ thousands (resourceWorth (caseOf (now (b .entry))) (certificateOf (now (q .entry)) .amount) i) ⌝ }
-{
-    let resource = case_reader::resource_at(b, r, z, f, i);
-    let amounts = certificate_records::amounts_at(q, r, z, f, i);
-    let energy = energy_worth(case_reader::offer_steps_at(b, r, z, f, i), amounts.energy);
-    let reserves = reserves_worth(resource.offers, amounts);
-    sum(energy, reserves)
-}
-
-// What all resources are given, at their prices.
-fn resources_worth(b: &[u8], q: &[u8], r: usize, z: usize, f: usize) -> ThousandGrains
-    requires { ⌜ Standing (now b) (now q) r z f ⌝ }
-    ensures { λ v. ⌜ v ≡ thousands (sumOf (resourceWorth (caseOf (now (b .entry))) (certificateOf (now (q .entry)) .amount)) (upto r)) ⌝ }
-{
-    let mut total = ThousandGrains(0);
-    let mut i: usize = 0;
-    while i < r {
-        let one = resource_worth(b, q, r, z, f, i);
-        total = sum(total, one);
-        i += 1;
-    }
-    total
 }
 
 // The value of the cleared quantities, curve by curve.
@@ -167,13 +122,19 @@ fn curves_value(b: &[u8], q: &[u8], r: usize, z: usize, f: usize) -> ThousandGra
     sum(operating, sum(spinning, sum(regulating, short_term)))
 }
 
-// 1000 × (energy steps, g, c, o at their prices, less curve value).
-pub fn cost(b: &[u8], q: &[u8], r: usize, z: usize, f: usize) -> Grains
-    requires { ⌜ Standing (now b) (now q) r z f ⌝ }
+// 1000 × (energy steps, g, c, o at their prices, less curve value), of what the resources are given at their prices, `resources`.
+pub fn cost(
+    b: &[u8],
+    q: &[u8],
+    r: usize,
+    z: usize,
+    f: usize,
+    resources: ThousandGrains,
+) -> Grains
+    requires { ⌜ Standing (now b) (now q) r z f × (resources ≡ thousands (sumOf (resourceWorth (caseOf (now b)) (certificateOf (now q) .amount)) (upto r))) ⌝ }
     ensures { λ g. ⌜ g ≡ grains (cost (caseOf (now (b .entry))) (certificateOf (now (q .entry)) .amount)) ⌝ }
 {
-    let total = resources_worth(b, q, r, z, f);
     let value = curves_value(b, q, r, z, f);
     let taken_off = negative(value);
-    in_grains(sum(total, taken_off))
+    in_grains(sum(resources, taken_off))
 }

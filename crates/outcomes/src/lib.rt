@@ -1,5 +1,6 @@
 // The certificate check, grounds 1 to 14, and the calls that write into a lent buffer once it has passed
 // (01, 'How each operation refuses').
+use capabilities::MOST_NUMBERS;
 use case_check::Stage;
 use market::Counts;
 use market::Delivery;
@@ -13,6 +14,7 @@ use market::Valuation;
 use market::ZONE_PRICES;
 use market::ZONE_ROWS;
 ghost use mathlib.Core.Path.{_≡_};
+ghost use Prim.Native.Nat.{_≤_};
 ghost use lib.ListN.{length};
 ghost use Rattle.market.specs.CaseFile.{caseOf};
 ghost use Rattle.market.specs.Certificate.{certificateOf};
@@ -20,18 +22,22 @@ ghost use Rattle.market.specs.Records.{countsIn};
 ghost use Rattle.market.specs.Refusals.{firstOf};
 ghost use Rattle.market.specs.Outcome.{grounds, valuation, priceAnswer, priceBuffer, chargeAnswer, chargeBuffer};
 ghost use Rattle.case_check.specs.Stages.{stageOf};
+ghost use Rattle.capabilities.specs.Kept.{mostNumbers, Kept};
+ghost use Rattle.quantities.specs.Filing.{Decided};
 ghost use Rattle.prices.specs.Standing.{Standing};
 ghost use Rattle.outcomes.specs.Checked.{outcomeAfter, AcceptedWith, Checked};
 
-// 1 to 14: the counts of a case and a certificate that have passed them, or the first ground that holds.
-fn rows_stage(b: &[u8], q: &[u8]) -> Stage
-    ensures { λ r. ⌜ r ≡ stageOf (countsIn (caseOf (now (b .entry)))) (firstOf (grounds (now (b .entry)) (now (q .entry)))) ⌝ }
+// 1 to 14: the counts of a case and a certificate that have passed them, or the first ground that holds. Where they pass, what is
+// decided of each resource is left in `kept`.
+fn rows_stage(b: &[u8], q: &[u8], kept: &mut [i32]) -> Stage
+    requires { ⌜ mostNumbers ≤ length (now kept) ⌝ }
+    ensures { λ r. ⌜ (r ≡ stageOf (countsIn (caseOf (now (b .entry)))) (firstOf (grounds (now (b .entry)) (now (q .entry))))) × Decided (now (b .entry)) r (now (kept .exit)) ⌝ }
 {
-    let earlier = quantities::bounds_stage(b, q);
+    let earlier = quantities::bounds_stage(b, q, kept);
     let Stage::Passed(n) = earlier else {
         return earlier;
     };
-    let found = rows::first_broken(b, q, n.resources, n.zones, n.flowgates);
+    let found = rows::first_broken(b, q, n.resources, n.zones, n.flowgates, kept);
     let First::At(row) = found else {
         return Stage::Passed(n);
     };
@@ -39,12 +45,13 @@ fn rows_stage(b: &[u8], q: &[u8]) -> Stage
 }
 
 // Cost, bound and gap of a certificate that stands.
-fn valued(b: &[u8], q: &[u8], n: Counts) -> Valuation
-    requires { ⌜ Standing (now b) (now q) (n .resources) (n .zones) (n .flowgates) ⌝ }
+fn valued(b: &[u8], q: &[u8], n: Counts, kept: &[i32]) -> Valuation
+    requires { ⌜ Standing (now b) (now q) (n .resources) (n .zones) (n .flowgates) × Kept (caseOf (now b)) (n .resources) (now kept) ⌝ }
     ensures { λ v. ⌜ v ≡ valuation (caseOf (now (b .entry))) (certificateOf (now (q .entry))) ⌝ }
 {
-    let cost = costs::cost(b, q, n.resources, n.zones, n.flowgates);
-    let bound = bounds::bound(b, q, n.resources, n.zones, n.flowgates);
+    let resources = valuations::resources_value(b, q, n.resources, n.zones, n.flowgates, kept);
+    let cost = costs::cost(b, q, n.resources, n.zones, n.flowgates, resources.worth);
+    let bound = bounds::bound(b, q, n.resources, n.zones, n.flowgates, resources.least);
     let gap = units::grains_difference(cost, bound);
     Valuation { cost, bound, gap }
 }
@@ -63,7 +70,8 @@ fn outcome_after(stage: Stage, values: Valuation) -> Outcome
 pub fn check_certificate(b: &[u8], q: &[u8]) -> Outcome
     ensures { λ r. ⌜ Checked (now (b .entry)) (now (q .entry)) r ⌝ }
 {
-    let stage = rows_stage(b, q);
+    let mut kept = [0i32; MOST_NUMBERS];
+    let stage = rows_stage(b, q, &mut kept);
     let Stage::Passed(n) = stage else {
         let none = Valuation {
             cost: Grains(0),
@@ -72,7 +80,7 @@ pub fn check_certificate(b: &[u8], q: &[u8]) -> Outcome
         };
         return outcome_after(stage, none);
     };
-    let values = valued(b, q, n);
+    let values = valued(b, q, n, &kept);
     outcome_after(stage, values)
 }
 
@@ -92,7 +100,8 @@ fn hand_over_prices(b: &[u8], q: &[u8], n: Counts, out: &mut [i64]) -> Delivery
 pub fn deliver_prices(b: &[u8], q: &[u8], out: &mut [i64]) -> Delivery
     ensures { λ r. ⌜ (r ≡ priceAnswer (now (b .entry)) (now (q .entry)) (length (now (out .entry)))) × (now (out .exit) ≡ priceBuffer (now (b .entry)) (now (q .entry)) (now (out .entry))) ⌝ }
 {
-    let stage = rows_stage(b, q);
+    let mut kept = [0i32; MOST_NUMBERS];
+    let stage = rows_stage(b, q, &mut kept);
     let Stage::Refused(why) = stage else {
         let n = case_check::counts_at(b);
         return hand_over_prices(b, q, n, out);
@@ -101,8 +110,8 @@ pub fn deliver_prices(b: &[u8], q: &[u8], out: &mut [i64]) -> Delivery
 }
 
 // 15, then the charges of an accepted certificate, in charge order.
-fn hand_over_charges(b: &[u8], q: &[u8], n: Counts, out: &mut [i64]) -> Delivery
-    requires { ⌜ AcceptedWith (now b) (now q) n ⌝ }
+fn hand_over_charges(b: &[u8], q: &[u8], n: Counts, kept: &[i32], out: &mut [i64]) -> Delivery
+    requires { ⌜ AcceptedWith (now b) (now q) n × Kept (caseOf (now b)) (n .resources) (now kept) ⌝ }
     ensures { λ r. ⌜ (r ≡ chargeAnswer (now (b .entry)) (now (q .entry)) (length (now (out .entry)))) × (now (out .exit) ≡ chargeBuffer (now (b .entry)) (now (q .entry)) (now (out .entry))) ⌝ }
 {
     if out.len()
@@ -110,7 +119,7 @@ fn hand_over_charges(b: &[u8], q: &[u8], n: Counts, out: &mut [i64]) -> Delivery
     {
         return Delivery::Refused(Refusal::BufferShort);
     }
-    charges::write_charges(b, q, n.resources, n.zones, n.flowgates, out);
+    charges::write_charges(b, q, n.resources, n.zones, n.flowgates, kept, out);
     Delivery::Delivered
 }
 
@@ -118,10 +127,11 @@ fn hand_over_charges(b: &[u8], q: &[u8], n: Counts, out: &mut [i64]) -> Delivery
 pub fn deliver_charges(b: &[u8], q: &[u8], out: &mut [i64]) -> Delivery
     ensures { λ r. ⌜ (r ≡ chargeAnswer (now (b .entry)) (now (q .entry)) (length (now (out .entry)))) × (now (out .exit) ≡ chargeBuffer (now (b .entry)) (now (q .entry)) (now (out .entry))) ⌝ }
 {
-    let stage = rows_stage(b, q);
+    let mut kept = [0i32; MOST_NUMBERS];
+    let stage = rows_stage(b, q, &mut kept);
     let Stage::Refused(why) = stage else {
         let n = case_check::counts_at(b);
-        return hand_over_charges(b, q, n, out);
+        return hand_over_charges(b, q, n, &kept, out);
     };
     Delivery::Refused(why)
 }

@@ -1,2 +1,3 @@
 pub mod Known
 pub mod Passes
+pub mod Written

@@ -1,3 +1,4 @@
 pub mod Figures
 pub mod Standing
 pub mod ZonePrices
+pub mod Written

@@ -1,0 +1,2 @@
+pub mod OffLine
+pub mod Known
