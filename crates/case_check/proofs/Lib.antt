@@ -1,3 +1,2 @@
-mod Steps
 mod Places
 pub mod Passing

@@ -25,7 +25,7 @@ use Rattle.wire.specs.CaseBytes.{CaseBytes}
 use Rattle.wire.proofs.WholeCase.{whole-case, valid-case}
 use Rattle.case_check.specs.declared.Stage.{Stage}
 use Rattle.case_check.specs.declared.Stage.the-variants.{Passed, Refused}
-use Rattle.case_check.specs.Stages.{stageOf, tested, shapeOf, Shaped, Staged}
+use Rattle.case_check.specs.Stages.{stageOf, tested, shapeOf, Shaped, Staged, SoundCase}
 
 -- ---- from tests to inequalities
 pub length-from : (b : List ℕ) → lengthRight leastCaseSize b ≡ true → leastCaseSize ≤ length b
@@ -101,6 +101,16 @@ in-order n (t ∷ ts) = go (t .passes) (in-order n ts)
 pub stages-are : (b : List ℕ) → tested (tested (tested (shapeOf b) (fieldsInRange (caseOf b)) R.FieldRange) (stepsRule (caseOf b)) R.StepRule) (limitsOrdered (caseOf b)) R.LimitPair ≡ stageOf (countsIn (caseOf b)) (firstOf (caseGrounds b))
 unfolding shapeOf caseGrounds
 stages-are b = in-order (countsIn (caseOf b)) (caseTests b)
+
+-- past 1 to 4: their refusal stands, and a sound case has passed
+module _ (b : List ℕ) where
+  pub refused-stands : (w : Refusal) → shapeOf b ≡ Refused w → shapeOf b ≡ stageOf (countsIn (caseOf b)) (firstOf (caseGrounds b))
+  unfolding tested
+  refused-stands w e = e ∙ (rw e at (stages-are b))
+
+  pub sound-passes : (n : Counts) → shapeOf b ≡ Passed n → SoundCase (caseOf b) → shapeOf b ≡ stageOf (countsIn (caseOf b)) (firstOf (caseGrounds b))
+  unfolding tested
+  sound-passes n e h = e ∙ (rw (e, h .in-range, h .steps-right, h .ordered) at (stages-are b))
 
 -- ---- what a caller learns
 pub passed-clear : (m n : Counts) (f : Finding) → stageOf m f ≡ Passed n → (f ≡ clear) × (n ≡ m)

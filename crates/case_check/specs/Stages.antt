@@ -7,8 +7,9 @@ use Prim.Native.Nat.{ℕ}
 use Rattle.market.specs.declared.Refusal.{Refusal}
 use Rattle.market.specs.declared.Refusal.the-variants as R
 use Rattle.market.specs.declared.Counts.{Counts}
+use Rattle.market.specs.Case.{Case}
 use Rattle.market.specs.CaseFile.{leastCaseSize, caseOf}
-use Rattle.market.specs.CaseCheck.{lengthRight, versionRight, countsRight, caseSizeRight}
+use Rattle.market.specs.CaseCheck.{lengthRight, versionRight, countsRight, caseSizeRight, fieldsInRange, stepsRule, limitsOrdered}
 use Rattle.market.specs.Records.{countsIn}
 use Rattle.market.specs.Refusals.{Finding, clear, holds}
 use Rattle.wire.specs.CaseBytes.{CaseBytes}
@@ -47,3 +48,9 @@ pub record Shaped (b : List ℕ) (stage : Stage) : Type 0 where
 pub record Staged (b : List ℕ) (earlier : Stage) (t : Bool) (why : Refusal) (stage : Stage) : Type 0 where
   pub answer : stage ≡ tested earlier t why
   pub shaped : Shaped b stage
+
+-- 5 to 7 pass
+pub record SoundCase (c : Case) : Type 0 where
+  pub in-range : fieldsInRange c ≡ true
+  pub steps-right : stepsRule c ≡ true
+  pub ordered : limitsOrdered c ≡ true

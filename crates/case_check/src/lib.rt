@@ -15,6 +15,7 @@ use market::RESOURCE_SIZE;
 use market::Refusal;
 use market::STEP_SIZE;
 use market::ZONE_SIZE;
+ghost use mathlib.Core.Bool.{true};
 ghost use mathlib.Core.Path.{_≡_};
 ghost use Prim.Native.Nat.{_+_, _*_, _<_, _≤_};
 ghost use lib.Dec.{leb, eqb};
@@ -33,7 +34,7 @@ ghost use Rattle.market.specs.Outcome.{caseGrounds, caseAnswer};
 ghost use Rattle.wire.specs.Within.{Within};
 ghost use Rattle.wire.specs.CaseBytes.{CaseBytes};
 ghost use Rattle.case_ranges.specs.Pieces.{ResourcesIn};
-ghost use Rattle.case_check.specs.Stages.{stageOf, shapeOf, Shaped, Staged};
+ghost use Rattle.case_check.specs.Stages.{stageOf, shapeOf, Shaped, Staged, SoundCase};
 ghost use Rattle.case_check.specs.Pieces.{offerStarts, offerFollows, offerRight, curveStarts, curveFollows, curveRight, limitsRight};
 
 // What the stages so far have found: the counts of a file that has passed them, or the first ground that holds.
@@ -383,11 +384,46 @@ fn limits_stage(b: &[u8], earlier: Stage) -> Stage
     Stage::Passed(n)
 }
 
+// 5 to 7 at once: true only where all pass, so that most files are through without the stages above.
+fn sound(b: &[u8], n: Counts) -> bool
+    requires { ⌜ CaseBytes (now b) (n .resources) (n .zones) (n .flowgates) ⌝ }
+    ensures { λ t. ⌜ (t ≡ true → SoundCase (caseOf (now (b .entry)))) ⌝ }
+{
+    let resources = n.resources;
+    let zones = n.zones;
+    let flowgates = n.flowgates;
+    if !case_ranges::at_most(b, 8, 128000000) {
+        return false;
+    }
+    if !case_ranges::reserves_in_range(b) {
+        return false;
+    }
+    if !case_ranges::curves_in_range(b) {
+        return false;
+    }
+    if !curves_right(b) {
+        return false;
+    }
+    if !case_ranges::zones_in_range(b, zones) {
+        return false;
+    }
+    if !sound_resources::resources_sound(b, resources, zones) {
+        return false;
+    }
+    case_ranges::flowgates_in_range(b, resources, zones, flowgates)
+}
+
 // 1 to 7: the counts of a valid case, or the first ground that holds.
 pub fn case_stage(b: &[u8]) -> Stage
     ensures { λ r. ⌜ r ≡ stageOf (countsIn (caseOf (now (b .entry)))) (firstOf (caseGrounds (now (b .entry)))) ⌝ }
 {
     let shape = shape_stage(b);
+    let Stage::Passed(n) = shape else {
+        return shape;
+    };
+    if sound(b, n) {
+        return shape;
+    }
     let steps = steps_stage(b, ranges_stage(b, shape));
     limits_stage(b, steps)
 }

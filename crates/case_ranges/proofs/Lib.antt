@@ -1,3 +1,3 @@
 pub mod Laws
-mod Places
+pub mod Places
 pub mod Halves

@@ -19,7 +19,7 @@ use Rattle.case_ranges.specs.Pieces.{numberAtMost, curveInRange, zoneInR
 limitsOf : Resource → List ℕ
 limitsOf r = r .economicMin ∷ r .economicMax ∷ r .regulatingMin ∷ r .regulatingMax ∷ r .emergencyMin ∷ r .emergencyMax ∷ []
 
-otherPowersOf : Resource → List ℕ
+unfoldable pub otherPowersOf : Resource → List ℕ
 otherPowersOf r = r .initial ∷ r .offLineResponse ∷ r .offLineShortTerm ∷ r .selfSchedule ∷ []
 
 -- the resource at p, and the largest number allowed
@@ -38,7 +38,7 @@ module _ (b : List ℕ) (p most : ℕ) where
       let e₅ : p + 10 + 20 ≡ p + 30 = omega arith in
       λ i. small (e₀ i) && (small (e₁ i) && (small (e₂ i) && (small (e₃ i) && (small (e₄ i) && (small (e₅ i) && true)))))
 
-  starts-run : all (numberAtMost most b (p + 46)) (upto 4) ≡ all (within 0 most) (otherPowersOf (resourceAt b p))
+  pub starts-run : all (numberAtMost most b (p + 46)) (upto 4) ≡ all (within 0 most) (otherPowersOf (resourceAt b p))
   unfolding all upto resourceAt otherPowersOf
   starts-run =
       let e₀ : p + 46 + 0 ≡ p + 46 = omega arith in
@@ -81,6 +81,10 @@ unfolding caseOf all upto
 zone-run b z = refl
 
 -- what stands at resource i's place is the case's resource
+pub resource-is : (b : List ℕ) {z : ℕ} → z ≡ u8At b 6 → (i : ℕ) → resourceAt b (resourcePlace z i) ≡ caseOf b .resource i
+unfolding caseOf
+resource-is b h i = rw h
+
 pub resource-here : (b : List ℕ) {z : ℕ} → z ≡ u8At b 6 → (i : ℕ) → resourceInRange z (resourceAt b (resourcePlace z i)) ≡ resourceNumberedInRange (caseOf b) i
 unfolding caseOf
 resource-here b h i = rw h

@@ -51,7 +51,7 @@ fn short_between(b: &[u8], at: usize, low: u32, high: u32) -> bool
     low <= x && x <= high
 }
 
-fn at_most(b: &[u8], at: usize, most: u32) -> bool
+pub fn at_most(b: &[u8], at: usize, most: u32) -> bool
     requires { ⌜ Within (now b) at 4 ⌝ }
     ensures { λ t. ⌜ t ≡ within 0 most (u32At (now (b .entry)) at) ⌝ }
 {
@@ -81,7 +81,7 @@ pub fn all_at_most(b: &[u8], at: usize, n: usize, most: u32) -> bool
 }
 
 // ---- a resource, whose 154 bytes stand at a place
-fn state_in_range(b: &[u8], at: usize, zones: usize) -> bool
+pub fn state_in_range(b: &[u8], at: usize, zones: usize) -> bool
     requires { ⌜ Within (now b) at resourceSize ⌝ }
     ensures { λ t. ⌜ t ≡ stateInRange zones (resourceAt (now (b .entry)) at) ⌝ }
 {
@@ -190,7 +190,7 @@ fn reserve_in_range(b: &[u8], pair: usize, share: usize, requirement: usize) -> 
 }
 
 // Regulating, contingency, short-term.
-fn reserves_in_range(b: &[u8]) -> bool
+pub fn reserves_in_range(b: &[u8]) -> bool
     requires { ⌜ Within (now b) 0 headSize ⌝ }
     ensures { λ t. ⌜ t ≡ all (reserveInRange (caseOf (now (b .entry)))) reserves ⌝ }
 {
@@ -232,7 +232,7 @@ fn curve_in_range(b: &[u8], curve: usize) -> bool
     true
 }
 
-fn curves_in_range(b: &[u8]) -> bool
+pub fn curves_in_range(b: &[u8]) -> bool
     requires { ⌜ Within (now b) 0 headSize ⌝ }
     ensures { λ t. ⌜ t ≡ all (curveInRange (caseOf (now (b .entry)))) curves ⌝ }
 {
@@ -247,7 +247,7 @@ fn curves_in_range(b: &[u8]) -> bool
 }
 
 // ---- zones and flowgates
-fn zones_in_range(b: &[u8], zones: usize) -> bool
+pub fn zones_in_range(b: &[u8], zones: usize) -> bool
     requires { ⌜ Within (now b) headSize (zones * zoneSize) ⌝ }
     ensures { λ t. ⌜ t ≡ all (zoneInRange (caseOf (now (b .entry)))) (upto zones) ⌝ }
 {
@@ -297,7 +297,7 @@ fn flowgate_in_range(b: &[u8], at: usize, resources: usize) -> bool
     factors_in_range(b, at, resources)
 }
 
-fn flowgates_in_range(b: &[u8], resources: usize, zones: usize, flowgates: usize) -> bool
+pub fn flowgates_in_range(b: &[u8], resources: usize, zones: usize, flowgates: usize) -> bool
     requires { ⌜ CaseBytes (now b) resources zones flowgates ⌝ }
     ensures { λ t. ⌜ t ≡ all (flowgateInRange (caseOf (now (b .entry)))) (upto flowgates) ⌝ }
 {

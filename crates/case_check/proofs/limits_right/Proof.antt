@@ -10,7 +10,7 @@ use Rattle.market.specs.CaseFile.{caseOf}
 use Rattle.market.specs.CaseCheck.{pairsOrdered}
 use Rattle.case_ranges.proofs.Laws.{passed, failed}
 use Rattle.case_check.specs.Pieces.{limitsRight}
-use Rattle.case_check.proofs.Places.{resource-is}
+use Rattle.case_ranges.proofs.Places.{resource-is}
 use Rattle.case_check.proofs.limits_right.Statement.{statement}
 use Rattle.case_check.proofs.limits_right.Tie as tie
 

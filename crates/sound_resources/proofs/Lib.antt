@@ -1,0 +1,4 @@
+pub mod Tests
+pub mod Steps
+mod Ranks
+mod Parts
