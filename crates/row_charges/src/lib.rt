@@ -14,6 +14,7 @@ ghost use Rattle.market.specs.Charges.{rowCharge};
 ghost use Rattle.market.specs.Records.{grains};
 ghost use Rattle.capabilities.specs.Kept.{Kept};
 ghost use Rattle.prices.specs.Standing.{Standing};
+ghost use Rattle.flows.specs.Parts.{EnergyParts};
 ghost use Rattle.reserves.specs.Given.{marketTotal, zoneTotal, zoneTotals};
 ghost use Rattle.row_charges.specs.Families.{RowChargeRoom, FourRoom, FiveRoom, rowChargeIn, fourCharges, fiveCharges};
 use limits::ResourceLimits;
@@ -22,6 +23,7 @@ use market::CurveAmounts;
 use market::Grains;
 use market::Kw;
 use market::LimitPrices;
+use market::MOST_RESOURCES;
 use market::MOST_ZONES;
 use market::Millicents;
 use market::RESOURCE_ROWS;
@@ -161,12 +163,22 @@ fn write_zones(
 // ---- flowgates' rows
 
 // The limit less the flow.
-fn flowgate_charge(b: &[u8], q: &[u8], r: usize, z: usize, f: usize, g: usize) -> Grains
+fn flowgate_charge(
+    b: &[u8],
+    q: &[u8],
+    r: usize,
+    z: usize,
+    f: usize,
+    g: usize,
+    high: &[i16],
+    low: &[i16],
+) -> Grains
     requires { ⌜ Standing (now b) (now q) r z f × (g < f) ⌝ }
+    requires { ⌜ EnergyParts (now q) r (now high) (now low) ⌝ }
     ensures { λ v. ⌜ v ≡ grains (rowChargeIn (now (b .entry)) (now (q .entry)) (Flowgate g)) ⌝ }
 {
     let price = certificate_records::flowgate_price_at(q, r, z, f, g);
-    let flows = rows::flow(b, q, r, z, f, g);
+    let flows = flows::flow(b, q, r, z, f, g, high, low);
     let limit = case_reader::flowgate_limit_at(b, r, z, f, g);
     let most = units::in_watts(limit);
     let slack = units::watts_difference(most, flows);
@@ -177,9 +189,12 @@ fn write_flowgates(b: &[u8], q: &[u8], r: usize, z: usize, f: usize, out: &mut [
     requires { ⌜ Standing (now b) (now q) r z f × (f ≤ length (now out)) ⌝ }
     ensures { λ _. ⌜ now (out .exit) ≡ map (rowChargeIn (now (b .entry)) (now (q .entry))) (flowgateRows (caseOf (now (b .entry)))) ++ drop f (now (out .entry)) ⌝ }
 {
+    let mut high = [0i16; MOST_RESOURCES];
+    let mut low = [0i16; MOST_RESOURCES];
+    flows::write_energies(q, r, z, f, &mut high, &mut low);
     let mut g: usize = 0;
     while g < f {
-        let value = flowgate_charge(b, q, r, z, f, g);
+        let value = flowgate_charge(b, q, r, z, f, g, &high, &low);
         let number = value.0;
         out[g] = number;
         g += 1;

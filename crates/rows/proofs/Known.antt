@@ -3,65 +3,30 @@ use mathlib.Core.Path.{_≡_, refl, sym, _∙_, ap}
 use mathlib.Core.Bool.{Bool, true, false}
 use mathlib.Core.List.{List, [], _∷_, _++_, map}
 use Prim.Native.Nat.{ℕ, _+_, _*_, _<_, _≤_}
-use native.Mathlib.Nat.{mul-le-mul}
 use native.Mathlib.Omega.{arith}
-use lib.IntN.{natAbs, _*ℤ_}
 use lib.ListN.{length}
 use Rattle.arith.specs.Sums.{sumOf, upto, across}
 use Rattle.arith.proofs.Lists.{length-across, length-upto, across-one}
-use Rattle.arith.proofs.Magnitudes.{abs-mul}
 use Rattle.arith.proofs.NaturalSums.{upto-size}
 use Rattle.market.specs.declared.First.{First}
 use Rattle.market.specs.declared.First.the-variants.{None, At}
 use Rattle.market.specs.declared.Refusal.{Refusal}
 use Rattle.market.specs.Case.{Case, curves}
-use Rattle.market.specs.CaseFile.{caseOf}
 use Rattle.market.specs.CaseCheck.{mostResources}
 use Rattle.market.specs.UpperBounds.{energy}
 use Rattle.market.specs.Rows.{Row, Balance, Zone, Flowgate, marketRows, zoneRows, flowgateRows, limitRows, rows, zoneRowCount}
 use Rattle.market.specs.Certificate.{certificateOf}
 use Rattle.market.specs.InWords.{kwOf}
-use Rattle.market.specs.Records.{recordOf}
 use Rattle.market.specs.Refusals.{Finding, foundAt, firstFailing}
 use Rattle.market.proofs.FirstFailing.{orElse, first-append, first-none, passes, fails}
-use Rattle.case_records.specs.Ranged.{Ranged}
-use Rattle.case_records.proofs.Ranged.{valid-resource}
-use Rattle.prices.specs.Standing.{Standing}
-use Rattle.prices.proofs.Known.{factor-size, resource-below, amount-small}
-use Rattle.units.specs.Room.{SumRoom, ProductRoom}
-use Rattle.rows.specs.Tests.{EnergyBounded, firstZoneRow}
+use Rattle.units.specs.Room.{SumRoom}
+use Rattle.flows.specs.Parts.{EnergyBounded}
+use Rattle.rows.specs.Tests.{firstZoneRow}
 use Rattle.rows.proofs.Search.{found-here, found-next}
 
 -- ---- energy
 pub energy-room : (q : List ℕ) (r : ℕ) → EnergyBounded q r → r ≤ mostResources → (i : ℕ) → i < r → SumRoom (sumOf (λ j. kwOf (certificateOf q .amount) j energy) (upto i)) (kwOf (certificateOf q .amount) i energy)
 energy-room q r e few i h = omega (arith, e .most i h, upto-size (λ j. kwOf (certificateOf q .amount) j energy) 2000000 i (λ j l. e .most j (omega arith)))
-
-module _ {b q : List ℕ} {r z f : ℕ} (s : Standing b q r z f) where
-  pub energy-bounded : EnergyBounded q r
-  energy-bounded = record { most = λ i h. amount-small s i energy h }
-
-  -- ---- flows
-  pub part-room : (g i : ℕ) → g < f → i < r → ProductRoom (caseOf b .shiftFactor g i) (kwOf (certificateOf q .amount) i energy)
-  part-room g i h k =
-      record {
-        left = omega (arith, factor-size (s .prices) g i h k);
-        right = omega (arith, amount-small s i energy k);
-        product = omega (arith, mul-le-mul (factor-size (s .prices) g i h k) (amount-small s i energy k));
-      }
-
-  part-small : (g i : ℕ) → g < f → i < r → natAbs (caseOf b .shiftFactor g i *ℤ kwOf (certificateOf q .amount) i energy) ≤ 2000000000
-  part-small g i h k =
-      omega (arith, abs-mul (caseOf b .shiftFactor g i) (kwOf (certificateOf q .amount) i energy), mul-le-mul (factor-size (s .prices) g i h k) (amount-small s i energy k))
-
-  pub flow-room : (g i : ℕ) → g < f → i < r →
-      SumRoom (sumOf (λ j. caseOf b .shiftFactor g j *ℤ kwOf (certificateOf q .amount) j energy) (upto i)) (caseOf b .shiftFactor g i *ℤ kwOf (certificateOf q .amount) i energy)
-  flow-room g i h k =
-      omega (
-        arith,
-        part-small g i h k,
-        upto-size (λ j. caseOf b .shiftFactor g j *ℤ kwOf (certificateOf q .amount) j energy) 2000000000 i (λ j l. part-small g j h (omega arith)),
-        s .prices .case-bytes .counts .most-resources,
-      )
 
 -- ---- the rows family by family
 module _ (c : Case) where

@@ -1,7 +1,7 @@
 -- The tests of a family's rows on figures by value, in the words of 01, and the first that fails.
 use mathlib.Core.Bool.{Bool, true, false}
 use mathlib.Core.List.{List, [], _∷_}
-use Prim.Native.Nat.{ℕ, suc, _+_, _*_, _<_, _≤_}
+use Prim.Native.Nat.{ℕ, suc, _+_, _*_, _≤_}
 use lib.IntN.{_+ℤ_, _-ℤ_}
 use lib.Signed.{leZ}
 use Rattle.market.specs.declared.Amounts.{Amounts}
@@ -11,7 +11,6 @@ use Rattle.market.specs.declared.First.the-variants.{None, At}
 use Rattle.market.specs.declared.Refusal.the-variants.{RowBroken}
 use Rattle.market.specs.CaseFile.{caseOf}
 use Rattle.market.specs.CaseCheck.{mostResources, mostZones, mostFlowgates}
-use Rattle.market.specs.UpperBounds.{energy, Provided}
 use Rattle.market.specs.Rows.{Row, systemRowCount, zoneRowCount, resourceRowCount}
 use Rattle.market.specs.Certificate.{certificateOf}
 use Rattle.market.specs.Refusals.{Finding, firstFailing}
@@ -42,10 +41,6 @@ mostRow = mostFirstLimit + mostResources * resourceRowCount
 -- a row's number, up to so many
 pub record Numbered (most n : ℕ) : Type 0 where
   pub to : n ≤ most
-
--- the energy that a certificate gives each of so many resources is at most 2,000,000 kW
-pub record EnergyBounded (q : List ℕ) (resources : ℕ) : Type 0 where
-  pub most : (i : ℕ) → i < resources → certificateOf q .amount (Provided i energy) ≤ 2000000
 
 -- a reserve row has at least what it needs
 abbrev pub shortTests : CurveAmounts → CurveAmounts → List Bool

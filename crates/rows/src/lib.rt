@@ -3,7 +3,7 @@
 ghost use mathlib.Core.Path.{_≡_};
 ghost use mathlib.Core.List.{[], _∷_, _++_, map};
 ghost use Prim.Native.Nat.{_+_, _*_, _<_};
-ghost use lib.IntN.{pos, _*ℤ_};
+ghost use lib.IntN.{pos};
 ghost use Rattle.arith.specs.Sums.{sumOf, upto};
 ghost use Rattle.market.specs.declared.Refusal.the-variants.{RowBroken};
 ghost use Rattle.market.specs.Case.{curves};
@@ -12,24 +12,25 @@ ghost use Rattle.market.specs.UpperBounds.{energy};
 ghost use Rattle.market.specs.Rows.{Balance, Zone, Flowgate, Limited, limits, marketRows, zoneRows, flowgateRows, limitRows, rows, zoneRowCount};
 ghost use Rattle.market.specs.Certificate.{certificateOf};
 ghost use Rattle.market.specs.InWords.{kwOf};
-ghost use Rattle.market.specs.Records.{kw, watts, curveAmountsOf};
+ghost use Rattle.market.specs.Records.{kw, curveAmountsOf};
 ghost use Rattle.market.specs.Refusals.{foundAt, firstFailing};
 ghost use Rattle.market.specs.Outcome.{rowMet};
 ghost use Rattle.case_records.specs.Places.{ZoneIn};
 ghost use Rattle.certificate_records.specs.CertificateBytes.{CertificateBytes};
 ghost use Rattle.capabilities.specs.Kept.{Kept};
 ghost use Rattle.prices.specs.Standing.{Standing, SmallAmounts};
+ghost use Rattle.flows.specs.Parts.{EnergyBounded, EnergyParts};
 ghost use Rattle.reserves.specs.Given.{marketTotal, zoneTotal, zoneTotals};
-ghost use Rattle.rows.specs.Tests.{firstFalse, shortTests, limitTests, EnergyBounded, brokenFrom, mostRow, mostFirstLimit, Numbered, firstZoneRow};
+ghost use Rattle.rows.specs.Tests.{firstFalse, shortTests, limitTests, brokenFrom, mostRow, mostFirstLimit, Numbered, firstZoneRow};
 use limits::ResourceLimits;
 use market::Amounts;
 use market::CurveAmounts;
 use market::First;
 use market::Kw;
+use market::MOST_RESOURCES;
 use market::MOST_ZONES;
 use market::RESOURCE_ROWS;
 use market::SYSTEM_ROWS;
-use market::Watts;
 use market::ZONE_ROWS;
 
 // Row numbers have 32 bits. Those of the zones begin behind row 1 and the market's.
@@ -159,29 +160,23 @@ fn zones_short(
 
 // ---- flowgates' rows
 
-// What the resources make flow.
-pub fn flow(b: &[u8], q: &[u8], r: usize, z: usize, f: usize, g: usize) -> Watts
-    requires { ⌜ Standing (now b) (now q) r z f × (g < f) ⌝ }
-    ensures { λ v. ⌜ v ≡ watts (sumOf (λ i. caseOf (now (b .entry)) .shiftFactor g i *ℤ kwOf (certificateOf (now (q .entry)) .amount) i energy) (upto r)) ⌝ }
-{
-    let mut sum = Watts(0);
-    let mut i: usize = 0;
-    while i < r {
-        let factor = case_reader::shift_factor_at(b, r, z, f, g, i);
-        let a = certificate_records::amounts_at(q, r, z, f, i);
-        let part = units::flow(factor, a.energy);
-        sum = units::watts_sum(sum, part);
-        i += 1;
-    }
-    sum
-}
-
-// Its row, numbered `row`: at most the limit flows.
-fn flowgate_over(b: &[u8], q: &[u8], r: usize, z: usize, f: usize, g: usize, row: u32) -> First
+// A flowgate's row, numbered `row`: at most the limit flows.
+fn flowgate_over(
+    b: &[u8],
+    q: &[u8],
+    r: usize,
+    z: usize,
+    f: usize,
+    g: usize,
+    row: u32,
+    high: &[i16],
+    low: &[i16],
+) -> First
     requires { ⌜ Standing (now b) (now q) r z f × ((g < f) × Numbered mostRow row) ⌝ }
+    requires { ⌜ EnergyParts (now q) r (now high) (now low) ⌝ }
     ensures { λ n. ⌜ foundAt RowBroken n ≡ brokenFrom (now (b .entry)) (now (q .entry)) row (Flowgate g ∷ []) ⌝ }
 {
-    let flows = flow(b, q, r, z, f, g);
+    let flows = flows::flow(b, q, r, z, f, g, high, low);
     let limit = case_reader::flowgate_limit_at(b, r, z, f, g);
     let most = units::in_watts(limit);
     if units::watts_at_least(most, flows) {
@@ -194,10 +189,13 @@ fn flowgates_over(b: &[u8], q: &[u8], r: usize, z: usize, f: usize, first: u32) 
     requires { ⌜ Standing (now b) (now q) r z f × Numbered mostFirstLimit first ⌝ }
     ensures { λ n. ⌜ foundAt RowBroken n ≡ brokenFrom (now (b .entry)) (now (q .entry)) first (flowgateRows (caseOf (now (b .entry)))) ⌝ }
 {
+    let mut high = [0i16; MOST_RESOURCES];
+    let mut low = [0i16; MOST_RESOURCES];
+    flows::write_energies(q, r, z, f, &mut high, &mut low);
     let mut row = first;
     let mut g: usize = 0;
     while g < f {
-        let n = flowgate_over(b, q, r, z, f, g, row);
+        let n = flowgate_over(b, q, r, z, f, g, row, &high, &low);
         let First::None = n else {
             return n;
         };

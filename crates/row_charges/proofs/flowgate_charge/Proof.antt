@@ -27,20 +27,20 @@ flows s = sumOf (λ i. caseOf (s .args .b .now) .shiftFactor (s .args .g) i *ℤ
 limit-most : (s : tie.Start) → natAbs (most s) ≤ mostSide
 limit-most s =
     let k = certificateOf (s .args .q .now) in
-    let p = s .pre .0 .prices in
-    limit-side (caseOf (s .args .b .now)) (k .amount) (k .price) (case-ranges p) (prices-in-range p) (s .pre .0 .bounded) (s .args .g) (flowgate-below p (s .pre .1))
+    let p = s .pre .0 .0 .prices in
+    limit-side (caseOf (s .args .b .now)) (k .amount) (k .price) (case-ranges p) (prices-in-range p) (s .pre .0 .0 .bounded) (s .args .g) (flowgate-below p (s .pre .0 .1))
 
 flow-most : (s : tie.Start) → natAbs (flows s) ≤ mostSide
 flow-most s =
     let k = certificateOf (s .args .q .now) in
-    let p = s .pre .0 .prices in
-    flow-side (caseOf (s .args .b .now)) (k .amount) (k .price) (case-ranges p) (prices-in-range p) (s .pre .0 .bounded) (s .args .r) (s .args .g) (resources-is (p .case-bytes)) (flowgate-below p (s .pre .1))
+    let p = s .pre .0 .0 .prices in
+    flow-side (caseOf (s .args .b .now)) (k .amount) (k .price) (case-ranges p) (prices-in-range p) (s .pre .0 .0 .bounded) (s .args .r) (s .args .g) (resources-is (p .case-bytes)) (flowgate-below p (s .pre .0 .1))
 
 flowgate-limit-at-requires : tie.Need-flowgate-limit-at-requires
-flowgate-limit-at-requires c κs = let s = c .before .before .before .before in flowgate-in (s .pre .0 .prices .case-bytes) (s .args .g) (s .pre .1)
+flowgate-limit-at-requires c κs = let s = c .before .before .before .before in flowgate-in (s .pre .0 .0 .prices .case-bytes) (s .args .g) (s .pre .0 .1)
 
 in-watts-requires : tie.Need-in-watts-requires
-in-watts-requires c κs = let s = c .before .before .before .before .before in rw (c .flowgate-limit-at .ensures) (limit-room (s .pre .0 .prices) (s .args .g) (s .pre .1))
+in-watts-requires c κs = let s = c .before .before .before .before .before in rw (c .flowgate-limit-at .ensures) (limit-room (s .pre .0 .0 .prices) (s .args .g) (s .pre .0 .1))
 
 watts-difference-requires : tie.Need-watts-difference-requires
 watts-difference-requires c κs =
@@ -57,14 +57,14 @@ flow-value-requires : tie.Need-flow-value-requires
 flow-value-requires c κs =
     let s = c .before .before .before .before .before .before .before in
     rw (slack-is c, c .before .before .before .before .flowgate-price-at .ensures)
-    (flow-value-room _ (most s) (flows s) (flowgate-size (s .pre .0 .prices) _ (omega (arith, s .pre .1))) (limit-most s) (flow-most s))
+    (flow-value-room _ (most s) (flows s) (flowgate-size (s .pre .0 .0 .prices) _ (omega (arith, s .pre .0 .1))) (limit-most s) (flow-most s))
 
 returns : tie.Need-returns
 returns c =
     let s = c .before .before .before .before .before .before .before .before in
     c .flow-value .ensures
     ∙ rw (slack-is (c .before), c .before .before .before .before .before .flowgate-price-at .ensures)
-    (ap grains (flowgate-charge (caseOf (s .args .b .now)) (certificateOf (s .args .q .now) .amount) (certificateOf (s .args .q .now) .price) (s .args .r) (s .args .g) (resources-is (s .pre .0 .prices .case-bytes))))
+    (ap grains (flowgate-charge (caseOf (s .args .b .now)) (certificateOf (s .args .q .now) .amount) (certificateOf (s .args .q .now) .price) (s .args .r) (s .args .g) (resources-is (s .pre .0 .0 .prices .case-bytes))))
 
 pub flowgate-charge-spec : {M : Type 1} → statement M
 flowgate-charge-spec =

@@ -8,7 +8,7 @@ use Rattle.market.specs.Certificate.{certificateOf}
 use Rattle.market.specs.Rows.{Balance}
 use Rattle.case_records.proofs.Places.{resources-is}
 use Rattle.prices.proofs.Known.{case-ranges, prices-in-range}
-use Rattle.rows.proofs.Known.{energy-bounded}
+use Rattle.flows.proofs.Parts.{energy-bounded}
 use Rattle.arith.proofs.Buffers.{store-front}
 use Rattle.row_charges.specs.Families.{rowChargeIn}
 use Rattle.row_charges.proofs.FromRecords.{balance-charge}

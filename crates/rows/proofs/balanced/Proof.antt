@@ -8,7 +8,7 @@ use Rattle.market.specs.Certificate.{certificateOf}
 use Rattle.market.specs.InWords.{kwOf}
 use Rattle.limits.proofs.Fields.{told-false, told-true}
 use Rattle.case_records.proofs.Places.{head-in, resources-is}
-use Rattle.rows.proofs.Known.{energy-bounded}
+use Rattle.flows.proofs.Parts.{energy-bounded}
 use Rattle.rows.proofs.Tests.{balance-met}
 use borrow.Author.Needs.{needs}
 use Rattle.rows.proofs.balanced.Statement.{statement}

@@ -14,10 +14,10 @@ use Rattle.rows.proofs.flowgate_over.Statement.{statement}
 use Rattle.rows.proofs.flowgate_over.Tie as tie
 
 flowgate-limit-at-requires : tie.Need-flowgate-limit-at-requires
-flowgate-limit-at-requires c κs = let s = c .before .before .before in flowgate-in (s .pre .0 .prices .case-bytes) (s .args .g) (s .pre .1 .0)
+flowgate-limit-at-requires c κs = let s = c .before .before .before in flowgate-in (s .pre .0 .0 .prices .case-bytes) (s .args .g) (s .pre .0 .1 .0)
 
 in-watts-requires : tie.Need-in-watts-requires
-in-watts-requires c κs = let s = c .before .before .before .before in rw (c .flowgate-limit-at .ensures) (limit-room (s .pre .0 .prices) (s .args .g) (s .pre .1 .0))
+in-watts-requires c κs = let s = c .before .before .before .before in rw (c .flowgate-limit-at .ensures) (limit-room (s .pre .0 .0 .prices) (s .args .g) (s .pre .0 .1 .0))
 
 -- the test is the row's
 told : (c : tie.After-watts-at-least) →
@@ -26,7 +26,7 @@ told : (c : tie.After-watts-at-least) →
 told c =
     let s = c .before .before .before .before .before .before in
     c .watts-at-least .ensures
-    ∙ rw (c .before .in-watts .ensures, c .before .before .flowgate-limit-at .ensures, c .before .before .before .flow .ensures) (flowgate-met (caseOf (s .args .b .now)) (certificateOf (s .args .q .now)) (s .args .r) (s .args .g) (resources-is (s .pre .0 .prices .case-bytes)))
+    ∙ rw (c .before .in-watts .ensures, c .before .before .flowgate-limit-at .ensures, c .before .before .before .flow .ensures) (flowgate-met (caseOf (s .args .b .now)) (certificateOf (s .args .q .now)) (s .args .r) (s .args .g) (resources-is (s .pre .0 .0 .prices .case-bytes)))
 
 returns : tie.Need-returns
 returns c =
