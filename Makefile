@@ -23,7 +23,7 @@ help:
 	@echo 'make install put both programs, headers, libraries, nostwier.pc and manual pages below DESTDIR and PREFIX=/usr/local'
 	@echo 'make soak    a C host against the reference on N=1000000 calls of each operation, from a seed that it prints'
 	@echo 'make fuzz    mutated inputs against the reference for SECONDS=60, from a seed that it prints; what differs is shrunk'
-	@echo 'make bench   times of the library beside a baseline in C, the reference and solvers (docs/BENCHMARKS.md)'
+	@echo 'make bench   times of the library beside a baseline in C, the same ideas in C, the reference and solvers (docs/BENCHMARKS.md)'
 	@echo 'make survey  try plausible wrong definitions, which the theorems must refuse (15 minutes on two cores)'
 	@echo 'make fmt     lay out the .rt and .antt files under crates/'
 
