@@ -17,7 +17,7 @@ ghost use Rattle.flows.specs.Parts.{range32, mostEnergy, EnergyBounded, 
 use market::Kw;
 use market::Watts;
 
-// An energy is so much times its high part, and its low part.
+// An energy is its high part times this, and its low part.
 const HIGH_UNIT: u64 = 2048;
 
 const SIGNED_HIGH_UNIT: i64 = HIGH_UNIT as i64;
@@ -66,7 +66,7 @@ fn factor_at(b: &[u8], q: &[u8], r: usize, z: usize, f: usize, g: usize, i: usiz
     factor.0 as i32
 }
 
-// One resource more in the sum from one part.
+// One resource more in the sum from the high parts, or from the low ones.
 fn added(sum: i32, factor: i32, part: i16) -> i32
     requires { ⌜ natAbs sum + natAbs factor * natAbs part < range32 ⌝ }
     ensures { λ v. ⌜ v ≡ sum +ℤ factor *ℤ part ⌝ }
@@ -74,7 +74,7 @@ fn added(sum: i32, factor: i32, part: i16) -> i32
     sum + factor * part as i32
 }
 
-// The sums from both parts together.
+// Both sums together.
 fn joined(high: i32, low: i32) -> Watts
     ensures { λ v. ⌜ v ≡ watts (pos highUnit *ℤ high +ℤ low) ⌝ }
 {

@@ -3,6 +3,7 @@ use Prim.Native.Nat.{_-_, _≤_}
 use native.Mathlib.Omega.{arith}
 use lib.ListN.{length, length-set}
 use mir.Syntax.{w16}
+use mir.Val.{toZ, ofZ}
 use mir.Facts.{toZ-ofZ}
 use borrow.Author.Needs.{needs, sfits-of}
 use Rattle.market.specs.Records.{amountsOf}
@@ -48,9 +49,9 @@ loop-again : tie.Need-loop-again Inv-loop μ-loop
 loop-again c =
     let s = c .before .before .before .before .before .before .before in
     let l = c .before .before .before .before .before .loop in
-    let high-is : c .before .narrow .result ≡ highOf (energyOf (s .args .q .now) (l .i)) = c .before .narrow .ensures ∙ rw (energy-is (c .before .before)) in
-    let low-is : c .narrow2 .result ≡ lowOf (energyOf (s .args .q .now) (l .i)) = c .narrow2 .ensures ∙ rw (energy-is (c .before .before)) in
-    rw (toZ-ofZ (sfits-of {w = w16} (c .before .narrow .ok)), toZ-ofZ (sfits-of {w = w16} (c .narrow2 .ok)), high-is, low-is) (
+    let high-is : toZ w16 (ofZ w16 (c .before .narrow .result)) ≡ highOf (energyOf (s .args .q .now) (l .i)) = toZ-ofZ (sfits-of {w = w16} (c .before .narrow .ok)) ∙ c .before .narrow .ensures ∙ rw (energy-is (c .before .before)) in
+    let low-is : toZ w16 (ofZ w16 (c .narrow2 .result)) ≡ lowOf (energyOf (s .args .q .now) (l .i)) = toZ-ofZ (sfits-of {w = w16} (c .narrow2 .ok)) ∙ c .narrow2 .ensures ∙ rw (energy-is (c .before .before)) in
+    rw (high-is, low-is) (
       omega arith,
       length-set (l .high) (l .i) _ ∙ l .inv .1,
       length-set (l .low) (l .i) _ ∙ l .inv .2,
