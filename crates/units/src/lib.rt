@@ -28,13 +28,6 @@ pub fn kw_difference(a: Kw, b: Kw) -> Kw
     Kw(a.0 - b.0)
 }
 
-pub fn watts_sum(a: Watts, b: Watts) -> Watts
-    requires { ⌜ SumRoom (a .0) (b .0) ⌝ }
-    ensures { λ r. ⌜ r ≡ watts (a .0 +ℤ b .0) ⌝ }
-{
-    Watts(a.0 + b.0)
-}
-
 pub fn watts_difference(a: Watts, b: Watts) -> Watts
     requires { ⌜ SumRoom (a .0) (b .0) ⌝ }
     ensures { λ r. ⌜ r ≡ watts (a .0 -ℤ b .0) ⌝ }
@@ -92,14 +85,6 @@ pub fn factored(a: Cents, factor: ShiftFactor) -> Millicents
     ensures { λ r. ⌜ r ≡ millicents (a .0 *ℤ factor .0) ⌝ }
 {
     Millicents(a.0 * factor.0)
-}
-
-// The part of a flow that a resource makes.
-pub fn flow(factor: ShiftFactor, a: Kw) -> Watts
-    requires { ⌜ ProductRoom (factor .0) (a .0) ⌝ }
-    ensures { λ r. ⌜ r ≡ watts (factor .0 *ℤ a .0) ⌝ }
-{
-    Watts(factor.0 * a.0)
 }
 
 pub fn in_millicents(a: Cents) -> Millicents
