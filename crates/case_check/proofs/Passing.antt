@@ -13,7 +13,7 @@ use Rattle.market.specs.declared.Refusal.the-variants as R
 use Rattle.market.specs.declared.Counts.{Counts}
 use Rattle.market.specs.Bytes.{u32At}
 use Rattle.market.specs.CaseFile.{leastCaseSize, caseOf}
-use Rattle.market.specs.CaseCheck.{CountsWithin, lengthRight, versionRight, countsRight, caseSizeRight, fieldsInRange, stepsRule, limitsOrdered}
+use Rattle.market.specs.CaseCheck.{CountsWithin, lengthRight, versionRight, countsRight, caseSizeRight}
 use Rattle.market.specs.Records.{countsIn}
 use Rattle.market.specs.Refusals.{Finding, clear, holds, unless, firstOf}
 use Rattle.market.specs.Outcome.{caseGrounds, Valid}
@@ -25,7 +25,7 @@ use Rattle.wire.specs.CaseBytes.{CaseBytes}
 use Rattle.wire.proofs.WholeCase.{whole-case, valid-case}
 use Rattle.case_check.specs.declared.Stage.{Stage}
 use Rattle.case_check.specs.declared.Stage.the-variants.{Passed, Refused}
-use Rattle.case_check.specs.Stages.{stageOf, tested, shapeOf, Shaped, Staged, SoundCase}
+use Rattle.case_check.specs.Stages.{stageOf, tested, shapeOf, groundsOf, Shaped, Staged, SoundCase}
 
 -- ---- from tests to inequalities
 pub length-from : (b : List ℕ) → lengthRight leastCaseSize b ≡ true → leastCaseSize ≤ length b
@@ -98,7 +98,7 @@ in-order n (t ∷ ts) = go (t .passes) (in-order n ts)
     go true later = later
     go false later = refused-stays (t .refusal) ts
 
-pub stages-are : (b : List ℕ) → tested (tested (tested (shapeOf b) (fieldsInRange (caseOf b)) R.FieldRange) (stepsRule (caseOf b)) R.StepRule) (limitsOrdered (caseOf b)) R.LimitPair ≡ stageOf (countsIn (caseOf b)) (firstOf (caseGrounds b))
+pub stages-are : (b : List ℕ) → groundsOf (caseOf b) (shapeOf b) ≡ stageOf (countsIn (caseOf b)) (firstOf (caseGrounds b))
 unfolding shapeOf caseGrounds
 stages-are b = in-order (countsIn (caseOf b)) (caseTests b)
 

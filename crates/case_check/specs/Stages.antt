@@ -40,6 +40,10 @@ shapeOf b =
     (caseSizeRight b (caseOf b))
     R.CaseSize
 
+-- 5 to 7, after the earlier stages' answer
+abbrev pub groundsOf : Case → Stage → Stage
+groundsOf c s = tested (tested (tested s (fieldsInRange c) R.FieldRange) (stepsRule c) R.StepRule) (limitsOrdered c) R.LimitPair
+
 -- 1 to 4 have passed with these counts, or something was refused
 pub record Shaped (b : List ℕ) (stage : Stage) : Type 0 where
   pub bytes : (n : Counts) → stage ≡ Passed n → CaseBytes b (n .resources) (n .zones) (n .flowgates)

@@ -34,7 +34,7 @@ ghost use Rattle.market.specs.Outcome.{caseGrounds, caseAnswer};
 ghost use Rattle.wire.specs.Within.{Within};
 ghost use Rattle.wire.specs.CaseBytes.{CaseBytes};
 ghost use Rattle.case_ranges.specs.Pieces.{ResourcesIn};
-ghost use Rattle.case_check.specs.Stages.{stageOf, shapeOf, Shaped, Staged, SoundCase};
+ghost use Rattle.case_check.specs.Stages.{stageOf, shapeOf, groundsOf, Shaped, Staged, SoundCase};
 ghost use Rattle.case_check.specs.Pieces.{offerStarts, offerFollows, offerRight, curveStarts, curveFollows, curveRight, limitsRight};
 
 // What the stages so far have found: the counts of a file that has passed them, or the first ground that holds.
@@ -384,7 +384,16 @@ fn limits_stage(b: &[u8], earlier: Stage) -> Stage
     Stage::Passed(n)
 }
 
-// 5 to 7 at once: true only where all pass, so that most files are through without the stages above.
+// 5 to 7, one after the other.
+fn grounds_stage(b: &[u8], shape: Stage) -> Stage
+    requires { ⌜ Shaped (now b) shape ⌝ }
+    ensures { λ r. ⌜ r ≡ groundsOf (caseOf (now (b .entry))) shape ⌝ }
+{
+    let steps = steps_stage(b, ranges_stage(b, shape));
+    limits_stage(b, steps)
+}
+
+// 5 to 7 at once. True says that all pass; false says nothing: the stages above then find the ground.
 fn sound(b: &[u8], n: Counts) -> bool
     requires { ⌜ CaseBytes (now b) (n .resources) (n .zones) (n .flowgates) ⌝ }
     ensures { λ t. ⌜ (t ≡ true → SoundCase (caseOf (now (b .entry)))) ⌝ }
@@ -424,8 +433,7 @@ pub fn case_stage(b: &[u8]) -> Stage
     if sound(b, n) {
         return shape;
     }
-    let steps = steps_stage(b, ranges_stage(b, shape));
-    limits_stage(b, steps)
+    grounds_stage(b, shape)
 }
 
 pub fn check_case(b: &[u8]) -> CaseAnswer

@@ -16,11 +16,11 @@ sound-requires c κs = let h : c .before .before .before .shape-stage .result �
 returns-2 : tie.Need-returns-2
 returns-2 c = let b = c .before .before .before .before .before .before .before .args .b .now in let h : shapeOf b ≡ Passed (c .before .before .before .shape .given .0 .0) = cc in sym h ∙ sound-passes b _ h (c .before .sound .ensures (c .if1 .taken))
 
-ranges-stage-requires : tie.Need-ranges-stage-requires
-ranges-stage-requires c κs = let h : c .before .before .before .before .before .shape-stage .result ≡ Passed (c .before .before .before .shape .given .0 .0) = cc in rw h at (c .before .before .before .before .before .shape-stage .ensures .1)
+grounds-stage-requires : tie.Need-grounds-stage-requires
+grounds-stage-requires c κs = let h : c .before .before .before .before .before .shape-stage .result ≡ Passed (c .before .before .before .shape .given .0 .0) = cc in rw h at (c .before .before .before .before .before .shape-stage .ensures .1)
 
 returns-3 : tie.Need-returns-3
-returns-3 c = cc (stages-are (c .before .before .before .before .before .before .before .before .before .before .args .b .now))
+returns-3 c = cc (stages-are (c .before .before .before .before .before .before .before .before .args .b .now))
 
 pub case-stage-spec : {M : Type 1} → statement M
 case-stage-spec =
@@ -32,7 +32,5 @@ case-stage-spec =
     returns
     sound-requires
     returns-2
-    ranges-stage-requires
-    (λ c κs. search needs)
-    (λ c κs. search needs)
+    grounds-stage-requires
     returns-3)
