@@ -11,8 +11,8 @@ use Rattle.market.specs.CaseCheck.{reserveInRange, flowgateInRange, stepsRule, 
 use Rattle.wire.specs.CaseBytes.{CaseBytes}
 use Rattle.case_ranges.specs.Pieces.{curveInRange, zoneInRange, resourceNumberedInRange}
 use Rattle.case_ranges.proofs.Places.{fields-in-turn}
-use Rattle.sound_resources.specs.Sound.{SoundResource}
-use Rattle.sound_resources.proofs.Tests.{all-below}
+use Rattle.case_soundness.specs.Sound.{SoundResource}
+use Rattle.case_soundness.proofs.Tests.{all-below}
 use Rattle.case_check.specs.Pieces.{curveRight, offerRight, limitsRight}
 use Rattle.case_check.specs.Stages.{SoundCase}
 

@@ -416,7 +416,7 @@ fn sound(b: &[u8], n: Counts) -> bool
     if !case_ranges::zones_in_range(b, zones) {
         return false;
     }
-    if !sound_resources::resources_sound(b, resources, zones) {
+    if !case_soundness::resources_sound(b, resources, zones) {
         return false;
     }
     case_ranges::flowgates_in_range(b, resources, zones, flowgates)

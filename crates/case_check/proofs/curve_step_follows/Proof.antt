@@ -4,7 +4,7 @@ use borrow.Author.Needs.{needs}
 use Rattle.market.specs.CaseCheck.{neverRises}
 use Rattle.market.specs.CaseFile.{caseOf}
 use Rattle.market.proofs.CurveNumbers.{number-is}
-use Rattle.sound_resources.proofs.Steps.{follow-by}
+use Rattle.case_soundness.proofs.Steps.{follow-by}
 use Rattle.case_check.proofs.curve_step_follows.Statement.{statement}
 use Rattle.case_check.proofs.curve_step_follows.Tie as tie
 

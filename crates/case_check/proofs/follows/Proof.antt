@@ -2,7 +2,7 @@
 use mathlib.Core.Path.{sym}
 use borrow.Author.Tests.{lt-ltb, le-ltb}
 use Rattle.case_ranges.proofs.Halves.{zero-plain}
-use Rattle.sound_resources.proofs.Steps.{follow-none, follow-some}
+use Rattle.case_soundness.proofs.Steps.{follow-none, follow-some}
 use Rattle.case_check.proofs.follows.Statement.{statement}
 use Rattle.case_check.proofs.follows.Tie as tie
 

@@ -8,7 +8,7 @@ use borrow.Author.Needs.{needs}
 use Rattle.market.specs.CaseFile.{resourceAt}
 use Rattle.market.specs.CaseCheck.{stepsFollow}
 use Rattle.market.specs.Bytes.{u32At, i32At}
-use Rattle.sound_resources.proofs.Steps.{follow-signed}
+use Rattle.case_soundness.proofs.Steps.{follow-signed}
 use Rattle.case_check.proofs.offer_starts.Statement.{statement}
 use Rattle.case_check.proofs.offer_starts.Tie as tie
 

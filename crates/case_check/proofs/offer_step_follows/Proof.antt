@@ -4,7 +4,7 @@ use native.Mathlib.Omega.{arith}
 use borrow.Author.Needs.{needs}
 use Rattle.market.specs.CaseCheck.{neverFalls}
 use Rattle.market.specs.CaseFile.{resourceAt}
-use Rattle.sound_resources.proofs.Steps.{follow-by, follow-signed}
+use Rattle.case_soundness.proofs.Steps.{follow-by, follow-signed}
 use Rattle.case_check.proofs.offer_step_follows.Statement.{statement}
 use Rattle.case_check.proofs.offer_step_follows.Tie as tie
 

@@ -5,7 +5,7 @@ use native.Mathlib.Omega.{arith}
 use borrow.Author.Needs.{needs}
 use Rattle.market.specs.CaseFile.{resourceAt}
 use Rattle.market.specs.Case.{widthOf}
-use Rattle.sound_resources.proofs.Steps.{width-none, width-more}
+use Rattle.case_soundness.proofs.Steps.{width-none, width-more}
 use Rattle.case_check.proofs.offer_width.Statement.{statement}
 use Rattle.case_check.proofs.offer_width.Tie as tie
 

@@ -3,7 +3,7 @@ use mathlib.Core.Path.{sym, _∙_}
 use borrow.Author.Tests.{not-false}
 use borrow.Author.Needs.{needs}
 use Rattle.case_ranges.proofs.Laws.{passed}
-use Rattle.sound_resources.proofs.Tests.{says-nothing}
+use Rattle.case_soundness.proofs.Tests.{says-nothing}
 use Rattle.case_check.proofs.Places.{case-sound}
 use Rattle.case_check.proofs.sound.Statement.{statement}
 use Rattle.case_check.proofs.sound.Tie as tie

@@ -22,7 +22,7 @@ returns c =
     let q = s .args .q .now in
     let o = s .args .out .now in
     let at = rowCountOf (s .args .r) (s .args .z) (s .args .f) in
-    write-on (map (rowCharge (caseOf b) (certificateOf q .amount) (certificateOf q .price)) (rows (caseOf b))) (map (chargeIn b q) (priced (caseOf b))) o (c .before .before .before .before .write-row-charges .last .1 .1 .1 .1 .1 .0) (c .before .write-priced-charges .last .1 .1 .1 .1 .1 .0) at (pricedCountOf (s .args .r)) at (rows-counted (s .pre .0)) refl (omega arith) (c .before .before .before .before .write-row-charges .ensures) (c .before .write-priced-charges .ensures)
+    write-on (map (rowCharge (caseOf b) (certificateOf q .amount) (certificateOf q .price)) (rows (caseOf b))) (map (chargeIn b q) (priced (caseOf b))) o (c .before .before .before .before .write-row-charges .last .1 .1 .1 .1 .1 .1 .0) (c .before .write-priced-charges .last .1 .1 .1 .1 .1 .1 .0) at (pricedCountOf (s .args .r)) at (rows-counted (s .pre .0)) refl (omega arith) (c .before .before .before .before .write-row-charges .ensures) (c .before .write-priced-charges .ensures)
     ∙ charges-listed (s .pre .0) o
 
 pub write-charges-spec : {M : Type 1} → statement M

@@ -1,11 +1,11 @@
--- `sound_resources::powers_sound` meets its contract. Assumes nothing.
+-- `case_soundness::powers_sound` meets its contract. Assumes nothing.
 use mathlib.Core.Path.{sym, _∙_}
 use borrow.Author.Tests.{not-false}
 use borrow.Author.Needs.{needs}
-use Rattle.sound_resources.proofs.Parts.{powers-sound}
-use Rattle.sound_resources.proofs.Tests.{says-nothing}
-use Rattle.sound_resources.proofs.powers_sound.Statement.{statement}
-use Rattle.sound_resources.proofs.powers_sound.Tie as tie
+use Rattle.case_soundness.proofs.Parts.{powers-sound}
+use Rattle.case_soundness.proofs.Tests.{says-nothing}
+use Rattle.case_soundness.proofs.powers_sound.Statement.{statement}
+use Rattle.case_soundness.proofs.powers_sound.Tie as tie
 
 returns-4 : tie.Need-returns-4
 returns-4 c = λ t. let s = c .before .before .before .before .before .before .before .before in powers-sound (s .args .b .now) (s .args .at) (c .before .before .before .before .before .before .pair-sound .ensures (not-false _ (c .before .before .before .before .before .if1 .left))) (c .before .before .before .before .pair-sound2 .ensures (not-false _ (c .before .before .before .if2 .left))) (c .before .before .pair-sound3 .ensures (not-false _ (c .before .if3 .left))) (sym (c .all-at-most .ensures) ∙ t)

@@ -1,8 +1,8 @@
--- `sound_resources::pair_sound` meets its contract. Assumes nothing.
+-- `case_soundness::pair_sound` meets its contract. Assumes nothing.
 use borrow.Author.Needs.{needs}
-use Rattle.sound_resources.proofs.Parts.{pair-sound}
-use Rattle.sound_resources.proofs.pair_sound.Statement.{statement}
-use Rattle.sound_resources.proofs.pair_sound.Tie as tie
+use Rattle.case_soundness.proofs.Parts.{pair-sound}
+use Rattle.case_soundness.proofs.pair_sound.Statement.{statement}
+use Rattle.case_soundness.proofs.pair_sound.Tie as tie
 
 returns : tie.Need-returns
 returns c = rw (c .before .u32-at .ensures, c .u32-at2 .ensures) (pair-sound _ _)

@@ -1,4 +1,4 @@
--- `sound_resources::offer_sound` meets its contract. The invariant: the rank kept is that of the last step passed and the sum that of the widths passed, each below 2^32; where nothing has failed, the prices passed are in range and the ranks never fall. The measure is what is left. Assumes nothing.
+-- `case_soundness::offer_sound` meets its contract. The invariant: the rank kept is that of the last step passed and the sum that of the widths passed, each below 2^32; where nothing has failed, the prices passed are in range and the ranks never fall. The measure is what is left. Assumes nothing.
 use mathlib.Core.Bool.{true}
 use mathlib.Core.Path.{_≡_, refl, sym, _∙_}
 use Prim.Native.Nat.{ℕ, _≤_, _<_, _-_, _*_}
@@ -6,12 +6,12 @@ use native.Mathlib.Omega.{arith}
 use borrow.Author.Needs.{needs}
 use borrow.Author.Count.{below-none}
 use Rattle.market.specs.Case.{widthOf}
-use Rattle.sound_resources.specs.Ranks.{movedOf}
-use Rattle.sound_resources.proofs.Parts.{widthsAt, pricesAt, offer-sound}
-use Rattle.sound_resources.proofs.Ranks.{rankAt, rankBefore, rank-next, Rising, rising-next}
-use Rattle.sound_resources.proofs.Steps.{width-none, width-more}
-use Rattle.sound_resources.proofs.offer_sound.Statement.{statement}
-use Rattle.sound_resources.proofs.offer_sound.Tie as tie
+use Rattle.case_soundness.specs.Ranks.{movedOf}
+use Rattle.case_soundness.proofs.Parts.{widthsAt, pricesAt, offer-sound}
+use Rattle.case_soundness.proofs.Ranks.{rankAt, rankBefore, rank-next, Rising, rising-next}
+use Rattle.case_soundness.proofs.Steps.{width-none, width-more}
+use Rattle.case_soundness.proofs.offer_sound.Statement.{statement}
+use Rattle.case_soundness.proofs.offer_sound.Tie as tie
 
 abbrev Inv-loop : tie.InvT-loop
 Inv-loop b at right₀ last₀ sum₀ j₀ right last sum j = (j ≤ 10) × (last ≡ rankBefore (widthsAt b at) (pricesAt b at) j) × (sum ≡ widthOf (widthsAt b at) j) × (sum ≤ j * 4294967295) × (right ≡ true → (k : ℕ) → k < j → Rising (widthsAt b at) (pricesAt b at) k)

@@ -1,8 +1,8 @@
--- `sound_resources::rank` meets its contract. Assumes nothing.
+-- `case_soundness::rank` meets its contract. Assumes nothing.
 use borrow.Author.Needs.{needs}
-use Rattle.sound_resources.proofs.Ranks.{rank-none, rank-some}
-use Rattle.sound_resources.proofs.rank.Statement.{statement}
-use Rattle.sound_resources.proofs.rank.Tie as tie
+use Rattle.case_soundness.proofs.Ranks.{rank-none, rank-some}
+use Rattle.case_soundness.proofs.rank.Statement.{statement}
+use Rattle.case_soundness.proofs.rank.Tie as tie
 
 returns : tie.Need-returns
 returns c = rank-none _ _ _ (c .if1 .taken)

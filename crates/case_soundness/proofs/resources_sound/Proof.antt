@@ -1,4 +1,4 @@
--- `sound_resources::resources_sound` meets its contract. The invariant: every resource before the place reached is sound; the measure is what is left. Assumes nothing.
+-- `case_soundness::resources_sound` meets its contract. The invariant: every resource before the place reached is sound; the measure is what is left. Assumes nothing.
 use mathlib.Core.Path.{_≡_}
 use Prim.Native.Nat.{ℕ, _+_, _*_, _≤_, _<_, _-_}
 use native.Mathlib.Omega.{arith}
@@ -7,10 +7,10 @@ use borrow.Author.Needs.{needs}
 use borrow.Author.Count.{below-none, below-more}
 use Rattle.market.specs.CaseFile.{caseOf}
 use Rattle.case_ranges.proofs.Places.{resource-is}
-use Rattle.sound_resources.specs.Sound.{SoundResource}
-use Rattle.sound_resources.proofs.Tests.{says-nothing}
-use Rattle.sound_resources.proofs.resources_sound.Statement.{statement}
-use Rattle.sound_resources.proofs.resources_sound.Tie as tie
+use Rattle.case_soundness.specs.Sound.{SoundResource}
+use Rattle.case_soundness.proofs.Tests.{says-nothing}
+use Rattle.case_soundness.proofs.resources_sound.Statement.{statement}
+use Rattle.case_soundness.proofs.resources_sound.Tie as tie
 
 abbrev Inv-loop : tie.InvT-loop
 Inv-loop b resources zones end at₀ at = (i : ℕ) × ((at ≡ 170 + zones * 16 + i * 154) × ((i ≤ resources) × ((k : ℕ) → k < i → SoundResource zones (caseOf b .resource k))))

@@ -17,8 +17,8 @@ use Rattle.market.specs.CaseCheck.{stepsFollow, stepsRight, neverFalls}
 use Rattle.case_ranges.specs.Pieces.{Halved}
 use Rattle.case_ranges.proofs.Halves.{at-bottom, at-top, zero-signed, shifted-order}
 use Rattle.case_ranges.proofs.Laws.{from-zero}
-use Rattle.sound_resources.specs.Ranks.{movedOf, rankOf}
-use Rattle.sound_resources.proofs.Tests.{both, all-below}
+use Rattle.case_soundness.specs.Ranks.{movedOf, rankOf}
+use Rattle.case_soundness.proofs.Tests.{both, all-below}
 
 -- ---- a rank by its step's width
 pub rank-none : (w p m : ℕ) → w ≡ 0 → 800001 + p ≡ rankOf w p m

@@ -13,8 +13,8 @@ ghost use Rattle.market.specs.CaseFile.{resourceSize, resourceAt, caseOf};
 ghost use Rattle.market.specs.Bytes.{u32At};
 ghost use Rattle.wire.specs.Within.{Within};
 ghost use Rattle.case_ranges.specs.Pieces.{ResourcesIn};
-ghost use Rattle.sound_resources.specs.Sound.{SoundPair, SoundPowers, SoundOffer, SoundResource};
-ghost use Rattle.sound_resources.specs.Ranks.{rankOf};
+ghost use Rattle.case_soundness.specs.Sound.{SoundPair, SoundPowers, SoundOffer, SoundResource};
+ghost use Rattle.case_soundness.specs.Ranks.{rankOf};
 
 // Of a pair of limits: the maximum is in range and the minimum not above it, so that it is in range too.
 fn pair_sound(b: &[u8], low: usize, high: usize) -> bool

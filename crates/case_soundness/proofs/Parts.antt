@@ -14,9 +14,9 @@ use Rattle.market.specs.CaseCheck.{ramps, reservePrices, resourceInRange, energ
 use Rattle.case_ranges.specs.Pieces.{numberAtMost, stateInRange}
 use Rattle.case_ranges.proofs.Laws.{from-zero}
 use Rattle.case_ranges.proofs.Places.{otherPowersOf, starts-run}
-use Rattle.sound_resources.specs.Sound.{SoundPair, SoundPowers, SoundOffer, SoundResource}
-use Rattle.sound_resources.proofs.Tests.{both}
-use Rattle.sound_resources.proofs.Ranks.{rankAt, rankBefore, Rising, offer-in-range, offer-right}
+use Rattle.case_soundness.specs.Sound.{SoundPair, SoundPowers, SoundOffer, SoundResource}
+use Rattle.case_soundness.proofs.Tests.{both}
+use Rattle.case_soundness.proofs.Ranks.{rankAt, rankBefore, Rising, offer-in-range, offer-right}
 
 pub pair-sound : (low high : ℕ) → (leb high 2000000 && leb low high) ≡ true → SoundPair low high
 pair-sound low high t =
