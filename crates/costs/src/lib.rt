@@ -123,14 +123,7 @@ fn curves_value(b: &[u8], q: &[u8], r: usize, z: usize, f: usize) -> ThousandGra
 }
 
 // 1000 × (energy steps, g, c, o at their prices, less curve value), of what the resources are given at their prices, `resources`.
-pub fn cost(
-    b: &[u8],
-    q: &[u8],
-    r: usize,
-    z: usize,
-    f: usize,
-    resources: ThousandGrains,
-) -> Grains
+pub fn cost(b: &[u8], q: &[u8], r: usize, z: usize, f: usize, resources: ThousandGrains) -> Grains
     requires { ⌜ Standing (now b) (now q) r z f × (resources ≡ thousands (sumOf (resourceWorth (caseOf (now b)) (certificateOf (now q) .amount)) (upto r))) ⌝ }
     ensures { λ g. ⌜ g ≡ grains (cost (caseOf (now (b .entry))) (certificateOf (now (q .entry)) .amount)) ⌝ }
 {

@@ -1,8 +1,9 @@
 -- From the stages' answer to the definitions: past 1 to 14 a certificate stands, its numbers fit, and its answer is 01's.
-use mathlib.Core.Path.{_≡_, refl, sym, _∙_, ap}
+use mathlib.Core.Path.{_≡_, refl, sym, _∙_, ap, subst}
 use mathlib.Core.List.{List, [], _∷_}
 use Prim.Native.Nat.{ℕ, _≤_}
 use native.Mathlib.Omega.{arith}
+use lib.IntN.{ℤ}
 use lib.ListN.{length}
 use Rattle.arith.proofs.Lists.{each-split}
 use Rattle.market.specs.declared.First.{First}
@@ -33,6 +34,7 @@ use Rattle.case_check.specs.declared.Stage.{Stage}
 use Rattle.case_check.specs.declared.Stage.the-variants.{Passed, Refused}
 use Rattle.case_check.specs.Stages.{stageOf}
 use Rattle.case_check.proofs.Passing.{passed-clear, refused-holds}
+use Rattle.capabilities.specs.Kept.{Kept}
 use Rattle.prices.specs.Standing.{Standing}
 use Rattle.units.specs.Room.{SumRoom}
 use Rattle.quantities.proofs.Passing.{standing}
@@ -60,6 +62,12 @@ module _ (b q : List ℕ) where
   -- ---- past 1 to 14
   pub accepted-with : (n m : Counts) → stageOf (countsIn (caseOf b)) (firstOf (grounds b q)) ≡ Passed n → m ≡ countsIn (caseOf b) → AcceptedWith b q m
   accepted-with n m h e = record { none-holds = passed-clear (countsIn (caseOf b)) n (firstOf (grounds b q)) h .0; counts = e }
+
+  -- what was kept for the counts of the stages is kept for those that are read again
+  pub kept-with : (n m : Counts) {kept : List ℤ} → stageOf (countsIn (caseOf b)) (firstOf (grounds b q)) ≡ Passed n → m ≡ countsIn (caseOf b) → Kept (caseOf b) (n .resources) kept → Kept (caseOf b) (m .resources) kept
+  kept-with n m {kept} h e k =
+      let same : n ≡ m = passed-clear (countsIn (caseOf b)) n (firstOf (grounds b q)) h .1 ∙ sym e in
+      subst (λ (l : Counts). Kept (caseOf b) (l .resources) kept) same k
 
   pub accepted-by : (n : Counts) → stageOf (countsIn (caseOf b)) (firstOf (grounds b q)) ≡ Passed n → AcceptedWith b q n
   accepted-by n h = accepted-with n n h (passed-clear (countsIn (caseOf b)) n (firstOf (grounds b q)) h .1)

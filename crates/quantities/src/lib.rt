@@ -124,14 +124,7 @@ fn provided_above(given: Amounts, most: Amounts, place: u32) -> First
     First::None
 }
 
-fn first_provided_above(
-    b: &[u8],
-    q: &[u8],
-    r: usize,
-    z: usize,
-    f: usize,
-    kept: &[i32],
-) -> First
+fn first_provided_above(b: &[u8], q: &[u8], r: usize, z: usize, f: usize, kept: &[i32]) -> First
     requires { ⌜ Filing (now b) (now q) r z f × Kept (caseOf (now b)) r (now kept) ⌝ }
     ensures { λ n. ⌜ foundAt AboveBound n ≡ firstFailing (withinBound (caseOf (now (b .entry))) (certificateOf (now (q .entry)))) AboveBound firstProvided (across (λ i. map (Provided i) services) (upto r)) ⌝ }
 {

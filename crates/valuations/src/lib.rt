@@ -131,15 +131,7 @@ fn resource_value(
 // ---- all resources
 
 // With their LMPs.
-fn sum_values(
-    b: &[u8],
-    q: &[u8],
-    r: usize,
-    z: usize,
-    f: usize,
-    kept: &[i32],
-    lmps: &[i64],
-) -> Value
+fn sum_values(b: &[u8], q: &[u8], r: usize, z: usize, f: usize, kept: &[i32], lmps: &[i64]) -> Value
     requires { ⌜ Standing (now b) (now q) r z f × Kept (caseOf (now b)) r (now kept) ⌝ }
     requires { ⌜ Lmps (now b) (now q) r (now lmps) ⌝ }
     ensures { λ v. ⌜ Valued v (sumOf (resourceWorth (caseOf (now (b .entry))) (certificateOf (now (q .entry)) .amount)) (upto r)) (sumOf (resourceTerms (now (b .entry)) (now (q .entry))) (upto r)) (mostResources * mostResourceTerms) ⌝ }

@@ -44,16 +44,26 @@ unfolding numbersOf
 returns c =
     let s = c .before .before .before .before .before .before .before .before .before .before .before .before in
     rw (
-      toZ-ofZ (sfits-of {w = w32} (c .before .before .before .before .before .before .before .before .before .bit .ok)), c .before .before .before .before .before .before .before .before .before .bit .ensures,
-      toZ-ofZ (sfits-of {w = w32} (c .before .before .before .before .before .before .before .before .bit2 .ok)), c .before .before .before .before .before .before .before .before .bit2 .ensures,
-      toZ-ofZ (sfits-of {w = w32} (c .before .before .before .before .before .before .before .number .ok)), c .before .before .before .before .before .before .before .number .ensures,
-      toZ-ofZ (sfits-of {w = w32} (c .before .before .before .before .before .before .number2 .ok)), c .before .before .before .before .before .before .number2 .ensures,
-      toZ-ofZ (sfits-of {w = w32} (c .before .before .before .before .before .number3 .ok)), c .before .before .before .before .before .number3 .ensures,
-      toZ-ofZ (sfits-of {w = w32} (c .before .before .before .before .number4 .ok)), c .before .before .before .before .number4 .ensures,
-      toZ-ofZ (sfits-of {w = w32} (c .before .before .before .number5 .ok)), c .before .before .before .number5 .ensures,
-      toZ-ofZ (sfits-of {w = w32} (c .before .before .number6 .ok)), c .before .before .number6 .ensures,
-      toZ-ofZ (sfits-of {w = w32} (c .before .number7 .ok)), c .before .number7 .ensures,
-      toZ-ofZ (sfits-of {w = w32} (c .number8 .ok)), c .number8 .ensures
+      toZ-ofZ (sfits-of {w = w32} (c .before .before .before .before .before .before .before .before .before .bit .ok)),
+      c .before .before .before .before .before .before .before .before .before .bit .ensures,
+      toZ-ofZ (sfits-of {w = w32} (c .before .before .before .before .before .before .before .before .bit2 .ok)),
+      c .before .before .before .before .before .before .before .before .bit2 .ensures,
+      toZ-ofZ (sfits-of {w = w32} (c .before .before .before .before .before .before .before .number .ok)),
+      c .before .before .before .before .before .before .before .number .ensures,
+      toZ-ofZ (sfits-of {w = w32} (c .before .before .before .before .before .before .number2 .ok)),
+      c .before .before .before .before .before .before .number2 .ensures,
+      toZ-ofZ (sfits-of {w = w32} (c .before .before .before .before .before .number3 .ok)),
+      c .before .before .before .before .before .number3 .ensures,
+      toZ-ofZ (sfits-of {w = w32} (c .before .before .before .before .number4 .ok)),
+      c .before .before .before .before .number4 .ensures,
+      toZ-ofZ (sfits-of {w = w32} (c .before .before .before .number5 .ok)),
+      c .before .before .before .number5 .ensures,
+      toZ-ofZ (sfits-of {w = w32} (c .before .before .number6 .ok)),
+      c .before .before .number6 .ensures,
+      toZ-ofZ (sfits-of {w = w32} (c .before .number7 .ok)),
+      c .before .number7 .ensures,
+      toZ-ofZ (sfits-of {w = w32} (c .number8 .ok)),
+      c .number8 .ensures,
     )
     (store-front (numbersOf (s .args .k)) (s .args .out .now) (omega arith))
 
