@@ -1,7 +1,6 @@
 // What is decided once of each resource and read by everything after it: whether it is on-line, whether its contingency reserve
-// is spinning, its limits, the upper bounds of its reserves (01, 'Before the rows'). All resources' are kept in one lent slice,
-// ten numbers each, one resource behind the other: as many numbers as a case needs, in 32 bits, cost less to lay out than
-// records of the largest case.
+// is spinning, its limits, the upper bounds of its reserves (01, 'Before the rows'). It is kept in one lent slice, ten numbers for
+// each resource, one resource behind the other.
 ghost use mathlib.Core.Path.{_≡_};
 ghost use mathlib.Core.List.{_++_};
 ghost use Prim.Native.Nat.{ℕ, _+_, _*_, _<_, _≤_};

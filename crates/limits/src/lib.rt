@@ -178,17 +178,6 @@ pub fn spinning(on: bool, t: State) -> bool
     on & flags.spinning()
 }
 
-// Of its state alone. A branch on the first answer is foreseen more often than one on both.
-pub fn state_spinning(t: State) -> bool
-    ensures { λ v. ⌜ ((s : Figures) → t ≡ stateOf s → v ≡ isSpinning s) ⌝ }
-{
-    let availability = state_availability(t);
-    if availability.on_line() {
-        return spinning(true, t);
-    }
-    false
-}
-
 // ---- limits: whether the resource is on-line, `on`, is decided once for all of them
 
 // Flag 1.
@@ -212,7 +201,7 @@ fn in_force(released: bool, emergency: Kw, regulates: bool, regulating: Kw, econ
     economic
 }
 
-pub fn max_limit(on: bool, r: Resource) -> Kw
+fn max_limit(on: bool, r: Resource) -> Kw
     ensures { λ m. ⌜ ((s : Figures) → on ≡ onLine s → r ≡ recordOf s → m ≡ power (MAX s)) ⌝ }
 {
     let limits = r.limits;
