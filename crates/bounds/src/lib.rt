@@ -1,6 +1,8 @@
 // The bound that a certificate's prices give (01, 'Certificate, cost, bound, charges'): the sum over rows of row price ×
 // right side, and the sum over what is priced of the lesser of 0 and net price × upper bound. Every sum says how large it
 // can be (specs/Sizes.antt), so that the next one fits. What the resources add is summed in `valuations`, with the cost.
+#![tactic(auto)]
+
 ghost use Rattle.std.specs.Prelude.{◌≡◌, ◌+◌, ◌*◌, ◌<◌, ◌≤◌, nat_abs, ◌+ℤ◌, ◌-ℤ◌, ◌*ℤ◌};
 ghost use Rattle.arith.specs.Sums.{sum_of, upto, across};
 ghost use Rattle.market.specs.Case.{curves};

@@ -1,6 +1,8 @@
 // What is decided once of each resource and read by everything after it: whether it is on-line, whether its contingency reserve
 // is spinning, its limits, the upper bounds of its reserves (01, 'Before the rows'). It is kept in one lent slice, ten numbers for
 // each resource, one resource behind the other.
+#![tactic(auto)]
+
 ghost use Rattle.std.specs.Prelude.{◌≡◌, ◌++◌, ℕ, ◌+◌, ◌*◌, ◌<◌, ◌≤◌, pos, nat_abs, length, drop, get_or};
 ghost use Rattle.market.specs.Case.{Case, Resource as Figures};
 ghost use Rattle.market.specs.CaseFile.{case_of};
@@ -18,7 +20,7 @@ use limits::{ReserveBounds, ResourceLimits};
 use market::{Kw, MOST_RESOURCES, Resource, Terms};
 
 // What a resource can do in the interval.
-#[derive(Drop)]
+#[derive(Clone, Copy, Drop)]
 pub struct Capability {
     pub on_line: bool,
     pub spinning: bool,

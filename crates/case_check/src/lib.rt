@@ -1,5 +1,7 @@
 // The case check: grounds 1 to 7 of a case file, each tested only where no earlier one holds anywhere in the file
 // (01, 'How each operation refuses'). `case_stage` is what the other operations start from.
+#![tactic(auto)]
+
 ghost use Rattle.std.specs.Prelude.{◌≡◌, ◌+◌, ◌*◌, ◌<◌, ◌≤◌, true, length, pos, ◌==◌, int_le, nat_le};
 ghost use Rattle.arith.specs.Sums.{upto, all};
 ghost use Rattle.market.specs.declared.Refusal.TheVariants.{FieldRange, StepRule, LimitPair};
@@ -23,7 +25,7 @@ use market::{
 };
 
 // What the stages so far have found: the counts of a file that has passed them, or the first ground that holds.
-#[derive(Drop)]
+#[derive(Clone, Copy, Drop)]
 pub enum Stage {
     Passed(Counts),
     Refused(Refusal),

@@ -1,6 +1,8 @@
 // Ground 5 of the case check: every field of a case file within its range (01, 'The case file').
 // Each function tests some fields; all but one end at the first that is out of range. They ask that these fields lie within the
 // file; `fields_in_range` asks that the file is past refusals 1 to 4. Those of one resource or one flowgate are given its place.
+#![tactic(auto)]
+
 ghost use Rattle.std.specs.Prelude.{◌≡◌, ◌+◌, ◌*◌, ◌<◌, length};
 ghost use Rattle.arith.specs.Sums.{upto, all};
 ghost use Rattle.market.specs.Bytes.{u8_at, u16_at, u32_at, i32_at, signed, within, either_way};

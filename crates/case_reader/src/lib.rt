@@ -1,6 +1,8 @@
 // The one reader that records are read out of a case through: the lent bytes of the case, with its three counts.
 // Each function over it takes it apart and calls the function of `case_records` that does the work; beside each stands one on plain
 // parameters, which makes the reader and calls it. Each asks that the bytes it reads are there (`case_records`, specs/Places.antt).
+#![tactic(auto)]
+
 ghost use Rattle.std.specs.Prelude.{◌≡◌};
 ghost use Rattle.market.specs.Case.{curve_numbered};
 ghost use Rattle.market.specs.CaseFile.{case_of};

@@ -1,5 +1,7 @@
 // Records out of a case's bytes, by value: resources, zones' requirements, reserve terms, demand curves, demand, flowgates.
 // Each function asks that the bytes it reads are there (specs/Places.antt), and equates its result with the definitions.
+#![tactic(auto)]
+
 ghost use Rattle.std.specs.Prelude.{◌≡◌, ◌<◌, ◌≤◌, length};
 ghost use Rattle.wire.specs.Within.{Within};
 ghost use Rattle.market.specs.Bytes.{u8_at};

@@ -1,5 +1,7 @@
 // A case's resources tested at once for grounds 5, 6 and 7. True says that each ground passes; false says nothing: the grounds'
 // own tests then find the first that holds.
+#![tactic(auto)]
+
 ghost use Rattle.std.specs.Prelude.{◌≡◌, ℕ, ◌<◌, true};
 ghost use Rattle.market.specs.CaseFile.{resource_size, resource_at, case_of};
 ghost use Rattle.market.specs.Bytes.{u32_at};

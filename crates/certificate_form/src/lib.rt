@@ -1,5 +1,7 @@
 // A certificate's file for a case: its form, grounds 8 to 11, and the range of every price, ground 12
 // (01, 'How each operation refuses'). Both hold for every case with the counts that are passed.
+#![tactic(auto)]
+
 ghost use Rattle.std.specs.Prelude.{◌≡◌, ◌+◌, ◌*◌, ◌<◌};
 ghost use Rattle.arith.specs.Sums.{upto, all};
 ghost use Rattle.market.specs.Case.{Case};

@@ -1,4 +1,6 @@
 // The entries of a certificate, read by value: amounts and row prices. Each reader asks for a file of the right size.
+#![tactic(auto)]
+
 ghost use Rattle.std.specs.Prelude.{◌≡◌, ◌<◌};
 ghost use Rattle.market.specs.Case.{Curve};
 ghost use Rattle.market.specs.Rows.{Row, balance_row, market_row, zone_row, flowgate_row};

@@ -1,6 +1,8 @@
 // The charges of an accepted certificate, written into a lent buffer in charge order (01, 'Certificate, cost, bound,
 // charges'). Of what is priced: for each resource ten energy steps, g, c, s and o, from the resource's own place on; then
 // sixteen curve steps. What stands beyond them stays as it was.
+#![tactic(auto)]
+
 ghost use Rattle.std.specs.Prelude.{◌≡◌, map, ◌++◌, ◌+◌, ◌*◌, ◌<◌, ◌≤◌, nat_abs, length, drop};
 ghost use Rattle.arith.specs.Sums.{upto, across};
 ghost use Rattle.market.specs.Case.{curves, curve_numbered};
@@ -176,7 +178,7 @@ fn write_curve(price: Millicents, curve: CurveSteps, cleared: Kw, out: &mut [i64
 }
 
 // A demand curve, with the price of its market row and its cleared quantity.
-#[derive(Drop)]
+#[derive(Clone, Copy, Drop)]
 struct ClearedCurve {
     price: Millicents,
     steps: CurveSteps,

@@ -1,6 +1,8 @@
 // Steps filled in order, and the cost of a certificate's amounts (01, 'Certificate, cost, bound, charges').
 // Amounts at prices in cents are summed as they are; the whole sum is then taken a thousand times, into grains. What the resources
 // are given at their prices is summed in `valuations`, with what they add to the bound.
+#![tactic(auto)]
+
 ghost use Rattle.std.specs.Prelude.{◌≡◌, ◌<◌, ◌≤◌, pos, nat_abs, neg_ℤ, ◌+ℤ◌, ◌*ℤ◌};
 ghost use Rattle.arith.specs.Sums.{sum_of, upto};
 ghost use Rattle.market.specs.Case.{curves};
@@ -18,7 +20,7 @@ ghost use Rattle.costs.specs.Worth.{thousands, resource_worth, curve_value, rese
 use market::{Amounts, Cents, CurveSteps, Grains, Kw, ReserveOffers};
 
 // Amounts at prices in cents: a cent per MWh times a kW is a thousand grains.
-#[derive(Drop)]
+#[derive(Clone, Copy, Drop)]
 pub struct ThousandGrains(pub i64);
 
 // A price in cents times an amount.
@@ -53,7 +55,7 @@ fn in_grains(a: ThousandGrains) -> Grains
 // ---- steps filled in order
 
 // What fills a step, and what is left for the steps after it.
-#[derive(Drop)]
+#[derive(Clone, Copy, Drop)]
 pub struct Filled {
     pub part: Kw,
     pub left: Kw,

@@ -1,5 +1,7 @@
 // Lines of words and numbers, as the program prints them. Each function writes its text at the front of a lent buffer,
 // which has to be long enough, and answers how many bytes that is. What stands beyond them stays as it was.
+#![tactic(auto)]
+
 ghost use Rattle.std.specs.Prelude.{◌≡◌, [], ◌∷◌, ◌++◌, ◌+◌, ◌≤◌, nat_abs, length, drop};
 ghost use Rattle.market.specs.Program.{digits_on, decimal, spaced, line};
 ghost use Rattle.decimals.specs.Digits.{digit_count, last_digits};

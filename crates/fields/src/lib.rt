@@ -1,5 +1,7 @@
 // The layout of the two files after length and version: which field each number has, how wide it is, what number stands
 // at its place and which numbers fit it. Reading and writing go by this one description (01, 'The case file').
+#![tactic(auto)]
+
 ghost use Rattle.std.specs.Prelude.{◌≡◌, ℕ, ◌<◌, ◌≤◌, length, get_or};
 ghost use Rattle.market.specs.Bytes.{within_ℤ};
 ghost use Rattle.market.specs.CaseCheck.{most_resources, most_zones, CountsWithin};
@@ -8,7 +10,7 @@ ghost use Rattle.wire.specs.Within.{Within};
 ghost use Rattle.fields.specs.Layout.{field_of, fields_of, head_numbers, resource_numbers, certificate_head_numbers};
 
 // Unsigned or in two's complement, big-endian.
-#[derive(Drop)]
+#[derive(Clone, Copy, Drop)]
 pub enum Field {
     U8,
     U16,
@@ -17,7 +19,7 @@ pub enum Field {
     I32,
 }
 
-#[derive(Drop)]
+#[derive(Clone, Copy, Drop)]
 pub enum File {
     Case,
     Certificate,

@@ -1,5 +1,7 @@
 // What the resources make flow over a flowgate. Energies are kept in two parts of 16 bits each, so that their products with a shift
 // factor, and the sums of these, have 32 bits: the compiler then multiplies and adds several at once.
+#![tactic(auto)]
+
 ghost use Rattle.std.specs.Prelude.{◌≡◌, ◌*◌, ◌+◌, ◌<◌, ◌≤◌, pos, nat_abs, ◌+ℤ◌, ◌*ℤ◌, length};
 ghost use Rattle.arith.specs.Sums.{sum_of, upto};
 ghost use Rattle.market.specs.CaseFile.{case_of};

@@ -2,6 +2,8 @@
 // rows'; 02, requests 2 and 6), on records by value. Each function equates its result with the definition for all figures that
 // the record stands for; where numbers are added or multiplied it asks that the record is in range (`case_records`,
 // specs/Ranged.antt).
+#![tactic(auto)]
+
 ghost use Rattle.std.specs.Prelude.{◌≡◌, cond, ◌||◌, ℕ, ◌+◌, ◌*◌, ◌-◌, ◌/◌, ◌<◌, ◌≤◌, min, max, nat_abs, pos};
 ghost use Rattle.std.specs.Int.Signed.{lt_z};
 ghost use Rattle.market.specs.Bits.{regulating_flag, spinning_flag, on_line_supplemental};
@@ -268,7 +270,7 @@ fn low_limit(on: bool, most: Kw, high: Kw, r: Resource) -> Kw
 }
 
 // MAX, MIN, HI and LO.
-#[derive(Drop)]
+#[derive(Clone, Copy, Drop)]
 pub struct ResourceLimits {
     pub max: Kw,
     pub min: Kw,
@@ -426,7 +428,7 @@ fn off_line_short_term_bound(r: Resource) -> Kw
 }
 
 // ---- of its four reserves
-#[derive(Drop)]
+#[derive(Clone, Copy, Drop)]
 pub struct ReserveBounds {
     pub regulation: Kw,
     pub contingency: Kw,

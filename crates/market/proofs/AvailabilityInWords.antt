@@ -92,7 +92,7 @@ off_line_in_words r =
 -- ---- where two suffice
 one_of_two : (r : Resource) → OneOfTwo r
 unfolding on_line
-one_of_two r = record { on_line = on_line_true (availability_of r); not_on_line = on_line_false (availability_of r) }
+one_of_two r = record { is_on_line = on_line_true (availability_of r); is_not_on_line = on_line_false (availability_of r) }
 
 pub availability_in_words : AvailabilityInWords
 unfolding upper_bound

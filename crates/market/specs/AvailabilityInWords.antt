@@ -74,8 +74,8 @@ abbrev pub NotOnLine : Resource → Type 0
 NotOnLine r = OffLine r ⊎ Tripped r
 
 pub record OneOfTwo (r : Resource) : Type 0 where
-  pub on_line : OnLine r ↔ (on_line r ≡ true)
-  pub not_on_line : NotOnLine r ↔ (on_line r ≡ false)
+  pub is_on_line : OnLine r ↔ (on_line r ≡ true)
+  pub is_not_on_line : NotOnLine r ↔ (on_line r ≡ false)
 
 -- ---- limits
 -- initial - 5 × ramp down, which may be below 0

@@ -1,5 +1,7 @@
 // The types of a dispatch interval: units, status bits and flags, records of the case, refusals and answers.
 // The definitions of document 01 stand in specs/, what is proved of them in proofs/.
+#![tactic(auto)]
+
 ghost use Rattle.std.specs.Prelude.{◌≡◌, pos};
 ghost use Rattle.market.specs.Bits.{committed, available, active_schedule, on_line_supplemental, regulating_flag, spinning_flag, off_line_supplemental_flag, off_line_short_term_flag, emergency_maximum_flag, self_scheduled_flag, emergency_minimum_flag, on_line_short_term_flag, status_of, status_bits};
 ghost use Rattle.market.specs.Availability.{on_line_figure, is_on_line};
@@ -126,18 +128,18 @@ pub fn certificate_size(resources: usize, zones: usize, flowgates: usize) -> usi
 
 // ---- units
 // Power, in kW.
-#[derive(Drop)]
+#[derive(Clone, Copy, Drop)]
 pub struct Kw(pub i64);
 
 // Ramps, in kW a minute.
-#[derive(Drop)]
+#[derive(Clone, Copy, Drop)]
 pub struct KwPerMinute(pub i64);
 
-#[derive(Drop)]
+#[derive(Clone, Copy, Drop)]
 pub struct Minutes(pub u32);
 
 // Multipliers and shares, in thousandths.
-#[derive(Drop)]
+#[derive(Clone, Copy, Drop)]
 pub struct Thousandths(pub u32);
 
 impl Thousandths {
@@ -145,30 +147,30 @@ impl Thousandths {
 }
 
 // Offer, curve and flowgate prices, in cents per MWh.
-#[derive(Drop)]
+#[derive(Clone, Copy, Drop)]
 pub struct Cents(pub i64);
 
 // All other prices, in thousandths of a cent per MWh.
-#[derive(Drop)]
+#[derive(Clone, Copy, Drop)]
 pub struct Millicents(pub i64);
 
 // The flow over a flowgate, and its limit beside it: in thousandths of a kW.
-#[derive(Drop)]
+#[derive(Clone, Copy, Drop)]
 pub struct Watts(pub i64);
 
 // How much of a resource's energy flows over a flowgate, in thousandths.
-#[derive(Drop)]
+#[derive(Clone, Copy, Drop)]
 pub struct ShiftFactor(pub i64);
 
 // Cost, bound and charges. 'Grain' is document 01's own term: one thousandth of a cent per MWh times one kW.
-#[derive(Drop)]
+#[derive(Clone, Copy, Drop)]
 pub struct Grains(pub i64);
 
 // A resource's status bits; none above 8 is set. Only this crate makes one of a byte.
-#[derive(Drop)]
+#[derive(Clone, Copy, Drop)]
 pub struct Status(u8);
 
-#[derive(Drop)]
+#[derive(Clone, Copy, Drop)]
 pub enum StatusRead {
     Bits(Status),
     OutOfRange,
@@ -227,7 +229,7 @@ impl Status {
 }
 
 // A resource's flags; any byte.
-#[derive(Drop)]
+#[derive(Clone, Copy, Drop)]
 pub struct Flags(u8);
 
 impl Flags {
@@ -303,7 +305,7 @@ impl Flags {
 }
 
 // Whether a resource is on-line, off-line or tripped (01, 'Before the rows'; 02, request 2).
-#[derive(Drop)]
+#[derive(Clone, Copy, Drop)]
 pub enum Availability {
     OnLine,
     OffLine,
@@ -335,7 +337,7 @@ impl Availability {
 }
 
 // What a case file counts: resources, zones, flowgates.
-#[derive(Drop)]
+#[derive(Clone, Copy, Drop)]
 pub struct Counts {
     pub resources: usize,
     pub zones: usize,
@@ -343,24 +345,24 @@ pub struct Counts {
 }
 
 // An offer step or a demand curve step.
-#[derive(Drop)]
+#[derive(Clone, Copy, Drop)]
 pub struct Step {
     pub width: Kw,
     pub price: Cents,
 }
 
-#[derive(Drop)]
+#[derive(Clone, Copy, Drop)]
 pub struct OfferSteps {
     pub of: [Step; ENERGY_STEPS],
 }
 
-#[derive(Drop)]
+#[derive(Clone, Copy, Drop)]
 pub struct CurveSteps {
     pub of: [Step; CURVE_STEPS],
 }
 
 // A resource's record, read by value. `trip` is the time since the last trip, 255 for none.
-#[derive(Drop)]
+#[derive(Clone, Copy, Drop)]
 pub struct State {
     pub kind: u8,
     pub zone: u8,
@@ -371,7 +373,7 @@ pub struct State {
     pub status: Status,
 }
 
-#[derive(Drop)]
+#[derive(Clone, Copy, Drop)]
 pub struct OutputLimits {
     pub economic_min: Kw,
     pub economic_max: Kw,
@@ -381,14 +383,14 @@ pub struct OutputLimits {
     pub emergency_max: Kw,
 }
 
-#[derive(Drop)]
+#[derive(Clone, Copy, Drop)]
 pub struct Ramps {
     pub up: KwPerMinute,
     pub down: KwPerMinute,
     pub rate: KwPerMinute,
 }
 
-#[derive(Drop)]
+#[derive(Clone, Copy, Drop)]
 pub struct OtherPowers {
     pub initial: Kw,
     pub off_line_response: Kw,
@@ -396,7 +398,7 @@ pub struct OtherPowers {
     pub self_schedule: Kw,
 }
 
-#[derive(Drop)]
+#[derive(Clone, Copy, Drop)]
 pub struct ReserveOffers {
     pub regulating: Cents,
     pub contingency: Cents,
@@ -404,7 +406,7 @@ pub struct ReserveOffers {
 }
 
 // All of the record but its energy steps: they are more than half of it, and few functions use them.
-#[derive(Drop)]
+#[derive(Clone, Copy, Drop)]
 pub struct Resource {
     pub state: State,
     pub limits: OutputLimits,
@@ -414,7 +416,7 @@ pub struct Resource {
 }
 
 // What a case says of one reserve: the multiplier, minutes, the largest share, the market requirement.
-#[derive(Drop)]
+#[derive(Clone, Copy, Drop)]
 pub struct ReserveTerms {
     pub multiplier: Thousandths,
     pub minutes: Minutes,
@@ -423,7 +425,7 @@ pub struct ReserveTerms {
 }
 
 // Of all three reserves.
-#[derive(Drop)]
+#[derive(Clone, Copy, Drop)]
 pub struct Terms {
     pub regulating: ReserveTerms,
     pub contingency: ReserveTerms,
@@ -431,13 +433,13 @@ pub struct Terms {
 }
 
 // A zone's requirements, in the order of the demand curves.
-#[derive(Drop)]
+#[derive(Clone, Copy, Drop)]
 pub struct ZoneRequirements {
     pub of: [Kw; 4],
 }
 
 // What a certificate gives a resource.
-#[derive(Drop)]
+#[derive(Clone, Copy, Drop)]
 pub struct Amounts {
     pub energy: Kw,
     pub regulation: Kw,
@@ -447,7 +449,7 @@ pub struct Amounts {
 }
 
 // The prices of a resource's five rows.
-#[derive(Drop)]
+#[derive(Clone, Copy, Drop)]
 pub struct LimitPrices {
     pub max_with_reserve: Millicents,
     pub max_with_short_term: Millicents,
@@ -457,7 +459,7 @@ pub struct LimitPrices {
 }
 
 // A figure for each demand curve: cleared quantities, or what reserve rows sum to.
-#[derive(Drop)]
+#[derive(Clone, Copy, Drop)]
 pub struct CurveAmounts {
     pub operating: Kw,
     pub regulating_plus_spinning: Kw,
@@ -466,7 +468,7 @@ pub struct CurveAmounts {
 }
 
 // The prices of the four reserve rows, market-wide or of a zone.
-#[derive(Drop)]
+#[derive(Clone, Copy, Drop)]
 pub struct ReservePrices {
     pub operating: Millicents,
     pub regulating_plus_spinning: Millicents,
@@ -475,7 +477,7 @@ pub struct ReservePrices {
 }
 
 // The grounds of refusal, in the order of their numbers; 13 with the quantity's place, 14 with the row's number.
-#[derive(Drop)]
+#[derive(Clone, Copy, Drop)]
 pub enum Refusal {
     CaseLength,
     CaseVersion,
@@ -547,7 +549,7 @@ impl Refusal {
 }
 
 // What a certificate check returns on success.
-#[derive(Drop)]
+#[derive(Clone, Copy, Drop)]
 pub struct Valuation {
     pub cost: Grains,
     pub bound: Grains,
@@ -555,35 +557,35 @@ pub struct Valuation {
 }
 
 // What a search for the first one that fails a test answers: its place, counted from 1, or that there is none.
-#[derive(Drop)]
+#[derive(Clone, Copy, Drop)]
 pub enum First {
     None,
     At(u32),
 }
 
 // The answer of the case check.
-#[derive(Drop)]
+#[derive(Clone, Copy, Drop)]
 pub enum CaseAnswer {
     Valid,
     Refused(Refusal),
 }
 
 // The answer of the certificate check.
-#[derive(Drop)]
+#[derive(Clone, Copy, Drop)]
 pub enum Outcome {
     Accepted(Valuation),
     Refused(Refusal),
 }
 
 // The answer of the calls for prices and charges: all numbers are written, or none.
-#[derive(Drop)]
+#[derive(Clone, Copy, Drop)]
 pub enum Delivery {
     Delivered,
     Refused(Refusal),
 }
 
 // The answer of reading into numbers and writing from them: how many numbers or bytes were written.
-#[derive(Drop)]
+#[derive(Clone, Copy, Drop)]
 pub enum Transfer {
     Written(u32),
     Refused(Refusal),
@@ -591,14 +593,14 @@ pub enum Transfer {
 
 // The answers as C hosts receive them. A refused one has every other field 0 but the place.
 #[repr(C)]
-#[derive(Drop)]
+#[derive(Clone, Copy, Drop)]
 pub struct Answer {
     pub refusal: u32,
     pub place: u32,
 }
 
 #[repr(C)]
-#[derive(Drop)]
+#[derive(Clone, Copy, Drop)]
 pub struct CheckResult {
     pub refusal: u32,
     pub place: u32,
@@ -608,7 +610,7 @@ pub struct CheckResult {
 }
 
 #[repr(C)]
-#[derive(Drop)]
+#[derive(Clone, Copy, Drop)]
 pub struct Count {
     pub refusal: u32,
     pub count: u32,

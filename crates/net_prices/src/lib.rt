@@ -1,5 +1,7 @@
 // Net prices: 1000 × a quantity's offer less what the rows' prices take from it (01, 'Certificate, cost, bound, charges').
 // A resource's reserves, the part of its energy's net price that all its steps share, an energy step, a curve step.
+#![tactic(auto)]
+
 ghost use Rattle.std.specs.Prelude.{◌≡◌, cond, ◌+◌, ◌*◌, ◌<◌, nat_abs, pos, ◌+ℤ◌, ◌-ℤ◌, ◌*ℤ◌};
 ghost use Rattle.market.specs.Rows.{is_spinning};
 ghost use Rattle.market.specs.Prices.{lmp_of};
@@ -17,7 +19,7 @@ use market::{Cents, LimitPrices, Millicents, ReserveOffers, Resource};
 use prices::ZonePrices;
 
 // A resource's net prices. Energy is without an offer: `step_net` adds a step's.
-#[derive(Drop)]
+#[derive(Clone, Copy, Drop)]
 pub struct Nets {
     pub energy: Millicents,
     pub regulation: Millicents,

@@ -1,4 +1,6 @@
 // The functions that C hosts call (include/nostwier.h): thin, each over the proved function of its crate.
+#![tactic(auto)]
+
 ghost use Rattle.std.specs.Prelude.{◌≡◌, length};
 ghost use Rattle.market.specs.Refusals.{case_number_of, answer_of, count_of};
 ghost use Rattle.market.specs.Outcome.{case_answer, price_answer, price_buffer, charge_answer, charge_buffer};

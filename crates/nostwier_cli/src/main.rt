@@ -1,4 +1,6 @@
 // The program: a case, then a certificate, on standard input; what `report` makes of them goes to standard output.
+#![tactic(auto)]
+
 fn main() {
     // one byte more than the program takes, so that a longer input is told from a full one
     let mut input = [0u8; report::MOST_INPUT + 1];

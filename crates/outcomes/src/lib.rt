@@ -1,5 +1,7 @@
 // The certificate check, grounds 1 to 14, and the calls that write into a lent buffer once it has passed
 // (01, 'How each operation refuses').
+#![tactic(auto)]
+
 ghost use Rattle.std.specs.Prelude.{◌≡◌, ◌≤◌, length};
 ghost use Rattle.market.specs.CaseFile.{case_of};
 ghost use Rattle.market.specs.Certificate.{certificate_of};

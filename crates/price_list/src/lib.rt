@@ -1,5 +1,7 @@
 // The numbers of the call for prices, written into a lent buffer: R LMPs, then four prices for each zone. What stands
 // beyond them stays as it was.
+#![tactic(auto)]
+
 ghost use Rattle.std.specs.Prelude.{◌≡◌, ◌++◌, ◌*◌, ◌≤◌, length, drop};
 ghost use Rattle.arith.specs.Sums.{upto, across};
 ghost use Rattle.market.specs.CaseFile.{case_of};

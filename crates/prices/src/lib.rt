@@ -1,4 +1,6 @@
 // LMPs and zone prices of a certificate whose prices are in range.
+#![tactic(auto)]
+
 ghost use Rattle.std.specs.Prelude.{◌≡◌, map, ◌++◌, ◌<◌, ◌≤◌, length, drop, ◌*ℤ◌};
 ghost use Rattle.arith.specs.Sums.{sum_of, upto};
 ghost use Rattle.market.specs.CaseFile.{case_of};
@@ -100,7 +102,7 @@ pub fn write_lmps(b: &[u8], q: &[u8], r: usize, z: usize, f: usize, out: &mut [i
 // ---- zone prices
 
 // The prices of a zone, in the order in which they are written.
-#[derive(Drop)]
+#[derive(Clone, Copy, Drop)]
 pub struct ZonePrices {
     pub regulating: Millicents,
     pub spinning: Millicents,

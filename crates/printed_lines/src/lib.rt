@@ -1,5 +1,7 @@
 // The lines that the program prints, of a refusal or of an accepted certificate. Each function writes at the front of a
 // lent buffer, which has to be long enough, and answers how many bytes that is. What stands beyond them stays as it was.
+#![tactic(auto)]
+
 ghost use Rattle.std.specs.Prelude.{◌*◌, ◌<◌, ◌≤◌, length};
 ghost use Rattle.arith.specs.Sums.{upto, across};
 ghost use Rattle.market.specs.declared.Outcome.TheVariants.{Accepted};

@@ -1,5 +1,7 @@
 // The certificate check as far as the upper bounds: grounds 1 to 13 of a case and a certificate, each tested only where no
 // earlier one holds anywhere in the files (01, 'How each operation refuses').
+#![tactic(auto)]
+
 ghost use Rattle.std.specs.Prelude.{◌≡◌, map, ℕ, ◌+◌, ◌<◌, ◌≤◌, leb, length};
 ghost use Rattle.arith.specs.Sums.{upto, across};
 ghost use Rattle.market.specs.declared.Refusal.TheVariants.{AboveBound};

@@ -1,5 +1,7 @@
 // A file's numbers, every field but length and version in order, into a lent buffer
 // (01, 'How each operation refuses': read into numbers).
+#![tactic(auto)]
+
 ghost use Rattle.std.specs.Prelude.{◌≡◌, ◌++◌, ◌≤◌, length, drop};
 ghost use Rattle.market.specs.Refusals.{clear, first_of};
 ghost use Rattle.market.specs.Numbers.{numbers_at, certificate_file_grounds, read_case, read_case_buffer, read_certificate, read_certificate_buffer, write_case, write_case_buffer, write_certificate, write_certificate_buffer};

@@ -1,5 +1,7 @@
 // The program's text, from the bytes of its input on: the lines of an accepted certificate, or its refusal. Each function
 // writes at the front of a lent buffer and answers how many bytes that is; what stands beyond them stays as it was.
+#![tactic(auto)]
+
 ghost use Rattle.std.specs.Prelude.{◌≡◌, ◌+◌, ◌≤◌, min, length};
 ghost use Rattle.market.specs.Bytes.{u32_at};
 ghost use Rattle.market.specs.CaseFile.{case_of};

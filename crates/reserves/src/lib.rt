@@ -1,5 +1,7 @@
 // What resources give to the four reserve rows, g+c, g+spin, g and s+o, and the sums of that market-wide and in each zone
 // (01, 'Rows'). Spin is c of an on-line resource with flag 2.
+#![tactic(auto)]
+
 ghost use Rattle.std.specs.Prelude.{◌≡◌, cond, ◌<◌, ◌≤◌, pos, nat_abs};
 ghost use Rattle.market.specs.CaseFile.{case_of};
 ghost use Rattle.market.specs.Certificate.{certificate_of};
@@ -38,7 +40,7 @@ fn given(a: Amounts, spin: Kw) -> CurveAmounts
 }
 
 // A resource's zone, counted from 1, and what it gives.
-#[derive(Drop)]
+#[derive(Clone, Copy, Drop)]
 struct ZonedAmounts {
     zone: u8,
     amounts: CurveAmounts,
@@ -97,7 +99,7 @@ fn amounts_sum(a: CurveAmounts, b: CurveAmounts) -> CurveAmounts
 
 // What all resources give to the market's rows, and those of each zone to its rows. Zones count from 0 here,
 // from 1 in the file.
-#[derive(Drop)]
+#[derive(Clone, Copy, Drop)]
 pub struct ReserveTotals {
     pub market: CurveAmounts,
     pub zones: [CurveAmounts; MOST_ZONES],

@@ -1,6 +1,8 @@
 // The charges of all rows of a standing certificate, written into a lent buffer: row 1, the market's four, each zone's four,
 // each flowgate's, each resource's five (01, 'Rows', 'Certificate, cost, bound, charges'). A row's charge is its price times
 // its slack. Each function writes from the front of what it is lent; what stands beyond stays as it was.
+#![tactic(auto)]
+
 ghost use Rattle.std.specs.Prelude.{◌≡◌, [], ◌∷◌, map, ◌++◌, ◌+◌, ◌*◌, ◌<◌, ◌≤◌, ◌-ℤ◌, ◌*ℤ◌, length, drop};
 ghost use Rattle.market.specs.Case.{curves};
 ghost use Rattle.market.specs.CaseFile.{case_of};

@@ -1,5 +1,7 @@
 // The first broken row of a certificate, by families: row 1, the market's reserve rows, each zone's, the flowgates', each
 // resource's own five (01, 'Rows', refusal 14). A family's function answers the number of its first broken row.
+#![tactic(auto)]
+
 ghost use Rattle.std.specs.Prelude.{◌≡◌, [], ◌∷◌, ◌++◌, map, ◌+◌, ◌*◌, ◌<◌, pos};
 ghost use Rattle.arith.specs.Sums.{sum_of, upto};
 ghost use Rattle.market.specs.declared.Refusal.TheVariants.{RowBroken};

@@ -1,5 +1,7 @@
 // Sums, differences, products and comparisons of figures in their units, and what turns one unit into another. A price in
 // thousandths of a cent times kW is grains; so is a price in cents times thousandths of a kW.
+#![tactic(auto)]
+
 ghost use Rattle.std.specs.Prelude.{◌≡◌, pos, ◌+ℤ◌, ◌-ℤ◌, ◌*ℤ◌};
 ghost use Rattle.std.specs.Int.Signed.{le_z};
 ghost use Rattle.arith.specs.Sums.{min_ℤ};

@@ -1,6 +1,8 @@
 // What the resources add to the cost and to the bound of a standing certificate, in one pass (01, 'Certificate, cost, bound,
 // charges'): each record, its steps and its entry of the certificate are read once for both. LMPs are worked out before, a
 // flowgate at a time; what is decided of a resource is read out of what was kept.
+#![tactic(auto)]
+
 ghost use Rattle.std.specs.Prelude.{◌≡◌, Bool, true, false, ◌*◌, ◌<◌, pos, nat_abs};
 ghost use Rattle.arith.specs.Sums.{sum_of, upto};
 ghost use Rattle.market.specs.CaseCheck.{most_resources};
@@ -22,7 +24,7 @@ use market::{Grains, Kw, MOST_RESOURCES, Millicents, OfferSteps};
 use net_prices::Nets;
 
 // What is added to the cost, at prices in cents, and to the bound.
-#[derive(Drop)]
+#[derive(Clone, Copy, Drop)]
 pub struct Value {
     pub worth: ThousandGrains,
     pub least: Grains,

@@ -1,5 +1,7 @@
 // Big-endian numbers at a place of a slice of bytes, out of it, plain or in their unit, and into it. Each function asks that the bytes that it
 // reads or writes lie within the slice.
+#![tactic(auto)]
+
 ghost use Rattle.std.specs.Prelude.{◌≡◌, ◌+◌, ◌<◌, ◌≤◌, [], ◌∷◌, pos};
 ghost use Rattle.market.specs.Bytes.{u8_at, u16_at, u32_at, signed, i16_at, i32_at};
 ghost use Rattle.market.specs.Records.{kw, cents, millicents, power, price, per_minute, minutes, thousandths};

@@ -1,5 +1,7 @@
 // A list of signed 64-bit numbers, every field but length and version in order, into a lent buffer as a file
 // (01, 'How each operation refuses': write from signed 64-bit numbers).
+#![tactic(auto)]
+
 ghost use Rattle.std.specs.Prelude.{◌≡◌, true, ◌++◌, ◌+◌, ◌<◌, ◌≤◌, length, drop, get_or, pos};
 ghost use Rattle.std.specs.Int.Signed.{le_z};
 ghost use Rattle.market.specs.CaseCheck.{CountsWithin, largest_case_size};

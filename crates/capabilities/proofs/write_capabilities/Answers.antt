@@ -1,0 +1,36 @@
+use mathlib.Core.Path.{◌≡◌, ◌∙◌}
+use Prim.Native.Nat.{◌+◌, ◌*◌, ◌-◌}
+use native.Mathlib.Omega.{arith}
+use lib.ListN.{length}
+use borrow.Author.Rules.{rules}
+use borrow.Rule.Slice.PartMut.{same_len_mid}
+use Rattle.market.specs.CaseFile.{case_of}
+use Rattle.arith.specs.Sums.{upto, across}
+use Rattle.arith.proofs.Lists.{across-upto}
+use Rattle.arith.proofs.Buffers.{write_on}
+use Rattle.capabilities.specs.Kept.{number_count, numbers_in}
+use Rattle.capabilities.proofs.Blocks.{blocks_length}
+use Rattle.capabilities.proofs.Numbers.{numbers_count, all-kept}
+use Rattle.capabilities.proofs.write_capabilities.Goals as goal
+
+pub loop-i-init : goal.loop-i-init
+unfolding upto across
+loop-i-init c = search rules
+
+pub loop-i-preserved : goal.loop-i-preserved
+loop-i-preserved c =
+    let k = c.loop-i in
+    let g = numbers_in (case_of c.args.b.now) in
+    let last = c.write_resource.new.out in
+    let e : k.i * number_count + number_count ≡ (k.i + 1) * number_count = omega arith in (
+      omega arith,
+      omega arith,
+      same_len_mid k.at (length k.out - k.at) k.out last c.write_resource.auto.out ∙ k.invariant.2,
+      rw (across-upto g k.i, ← e)
+          (write_on (across g (upto k.i)) (g k.i) c.args.out.now k.out last (k.i * number_count) number_count k.at (blocks_length g number_count (λ i. numbers_count _) k.i) (omega arith) (omega arith) k.invariant.3 c.write_resource.ensures),
+    )
+
+pub returns : goal.returns
+returns c =
+    let e : c.loop-i.i ≡ c.args.r = omega arith in
+    rw (← e) (all-kept (case_of c.args.b.now) c.loop-i.i c.loop-i.out _ c.loop-i.invariant.3)
