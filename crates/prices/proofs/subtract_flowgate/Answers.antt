@@ -14,7 +14,7 @@ use Rattle.market.specs.CaseFile.{case_of}
 use Rattle.market.specs.Records.{millicents}
 use Rattle.prices.specs.Figures.{less_flowgate}
 use Rattle.prices.proofs.subtract_flowgate.Goals as goal
-use Rattle.prices.proofs.subtract_flowgate.Goals.{After-factored-part, After-price_difference-arg-1, After-price_difference-left}
+use Rattle.prices.proofs.subtract_flowgate.Goals.{After-factored-part, After-price_difference-arg-1}
 
 pub loop-i-init : goal.loop-i-init
 unfolding upto
@@ -33,16 +33,12 @@ figure c =
     let e : get_or l.out l.i (pos 0) ≡ get_or c.args.out.now l.i (pos 0) = rw l.invariant.2 (front_next (pos 0) less l.i c.args.out.now) in
     to_z-of_z (sfits_of {w = w64} c.price_difference-arg-1.given) ∙ e
 
-left : (c : After-price_difference-left) →
-    let i = c.loop-i.i in
-    c.price_difference-left.result ≡ millicents (less_flowgate (case_of c.args.b.now) c.args.g c.args.price.0 c.args.out.now i)
-left c = c.price_difference-left.ensures ∙ rw (figure c.before, part c.before.before)
-
 pub loop-i-preserved : goal.loop-i-preserved
 loop-i-preserved c =
     let l = c.loop-i in
     let less = less_flowgate (case_of c.args.b.now) c.args.g c.args.price.0 c.args.out.now in
-    rw (read_back c.struct_told-1.given.0.1, left (goal.at.loop-i-preserved c).After-price_difference-left) (
+    let number : c.price_difference-left.result ≡ millicents (less l.i) = c.price_difference-left.ensures ∙ rw (figure (goal.at.loop-i-preserved c).After-price_difference-arg-1, part (goal.at.loop-i-preserved c).After-factored-part) in
+    rw (read_back c.struct_told-1.given.0.1, number) (
       omega arith,
       length-set l.out l.i (less l.i) ∙ l.invariant.1,
       front_store less l.i c.args.out.now l.out (omega arith) l.invariant.2,

@@ -1,5 +1,4 @@
 use mathlib.Core.List.{List, map, ◌++◌}
-use mathlib.Core.Logic.{⊎_elim}
 use mathlib.Core.Path.{◌≡◌, refl, sym, ap, ◌∙◌}
 use Prim.Native.Nat.{◌-◌}
 use native.Mathlib.Omega.{arith}
@@ -13,7 +12,7 @@ use Rattle.market.specs.Rows.{balance_row, flowgate_row}
 use Rattle.market.specs.Certificate.{certificate_of}
 use Rattle.prices.proofs.Passes.{none_passed, one_taken, none_taken, all_passed, pass_room}
 use Rattle.prices.proofs.write_lmps.Goals as goal
-use Rattle.prices.proofs.write_lmps.Goals.{After-write_balance}
+use Rattle.prices.proofs.write_lmps.Goals.{After-write_balance, then-price-ne0, else-price-ne0}
 
 balanced : (c : After-write_balance) →
     c.write_balance.new.out ≡ map (λ i. (certificate_of c.args.q.now).price balance_row) (upto c.args.r) ++ drop c.args.r c.args.out.now
@@ -35,18 +34,18 @@ loop-g-preserved c =
     let y = (certificate_of c.args.q.now).price in
     let rest = drop c.args.r c.write_balance.new.out in
     let priced : c.flowgate_price_at-price.result.0 ≡ y (flowgate_row l.g) = rw c.flowgate_price_at-price.ensures in
-    ⊎_elim
-    (λ w. (
+    elim c.if-price-ne0.branch [
+    then-price-ne0 w ↦ (
       omega arith,
-      rw w.4 (w.2.kept.1.1.1.1.1.1.0 ∙ l.invariant.1),
-      w.4 ∙ (rw priced at w.2.ensures) ∙ one_taken cs y c.args.r l.g l.out rest l.invariant.2,
-    ))
-    (λ w. (
+      rw w.out-is (w.subtract_flowgate.auto.out ∙ l.invariant.1),
+      w.out-is ∙ (rw priced at w.subtract_flowgate.ensures) ∙ one_taken cs y c.args.r l.g l.out rest l.invariant.2,
+    )
+    | else-price-ne0 w ↦ (
       omega arith,
-      rw w.1 l.invariant.1,
-      w.1 ∙ l.invariant.2 ∙ ap (λ (p : List ℤ). p ++ rest) (none_taken cs y c.args.r l.g (sym priced ∙ zero_bits c.struct_told-1.given.0.1 w.0.left)),
-    ))
-    c.if-price-ne0.branch
+      rw w.out-is l.invariant.1,
+      w.out-is ∙ l.invariant.2 ∙ ap (λ (p : List ℤ). p ++ rest) (none_taken cs y c.args.r l.g (sym priced ∙ zero_bits c.struct_told-1.given.0.1 w.if-price-ne0.false)),
+    )
+    ]
 
 pub returns : goal.returns
 returns c =
