@@ -12,4 +12,8 @@ use Rattle.write_numbers.proofs.Handed.{file_front}
 use Rattle.write_numbers.proofs.filed_stage.Goals as goal
 
 pub returns : goal.returns
-returns c = let s = c.before.before.before.before.before.before.before.before.before in let p = s.requires.0 in c.case_stage.ensures ∙ ap (λ (x : List ℕ). stage_of (counts_in (case_of x)) (first_of (case_grounds x))) (file_front Case s.args.v.now s.args.resources s.args.zones s.args.flowgates p c.file_size-size.result c.file_size-size.ensures.0 _ _ c.put_file.ensures) ∙ filed s.args.v.now p.none_holds
+returns c =
+    let p = c.requires.0 in
+    c.case_stage.ensures
+    ∙ ap (λ (x : List ℕ). stage_of (counts_in (case_of x)) (first_of (case_grounds x))) (file_front Case c.args.v.now c.args.resources c.args.zones c.args.flowgates p c.file_size-size.result c.file_size-size.ensures.0 _ _ c.put_file.ensures)
+    ∙ filed c.args.v.now p.none_holds

@@ -1,46 +1,45 @@
+use mathlib.Core.Path.{◌≡◌, refl, ◌∙◌, sym}
+use mathlib.Core.Bool.{Bool}
 use mathlib.Core.List.{List}
-use mathlib.Core.Path.{◌≡◌, ◌∙◌}
-use Prim.Native.Nat.{◌-◌, ◌<◌}
+use Prim.Native.Nat.{ℕ, ◌<◌}
 use native.Mathlib.Omega.{arith}
 use lib.ListN.{get_or, length}
-use lib.IntN.{pos}
+use lib.IntN.{ℤ, pos}
 use mir.Syntax.{w64}
 use mir.Facts.{to_z-of_z}
-use mir.Val.{to_z, of_z}
-use borrow.Author.Rules.{sfits_of, rules}
+use mir.Val.{SFits}
+use borrow.Author.Rules.{rules}
 use Rattle.market.specs.Numbers.{Field, u8, numbers_fit}
-use Rattle.case_ranges.proofs.Laws.{passed, failed}
-use Rattle.fields.specs.Layout.{field_of, fields_of}
+use Rattle.fields.specs.Layout.{fields_of}
 use Rattle.write_numbers.proofs.Walked.{fits_field, length_differs, misfit, fit_more}
 use Rattle.write_numbers.proofs.numbers_fit.Goals as goal
-use Rattle.write_numbers.proofs.numbers_fit.Goals.{After-number-1, Start}
 
-abbrev all : (c : Start) → List Field
-all c = fields_of c.args.file c.args.resources c.args.zones c.args.flowgates
-
-abbrev start : (c : After-number-1) → tie.Start invariant-loop decreases-loop
-start c = c.before.before.before.before.before.before
-
-inside : (c : After-number-1) → c.loop-k.k < length (all (start c))
-inside c = let e = c.count-count.ensures in omega arith
-
-same : (c : After-number-1) → length (all (start c)) ≡ length (start c).args.v.now
-same c = let e = c.count-count.ensures in omega arith
-
-tested : (c : After-number-1) → fits_field (field_of c.field_of-field.result) (to_z w64 (of_z w64 (get_or (start c).args.v.now c.loop-k.k (pos 0)))) ≡ fits_field (get_or (all (start c)) c.loop-k.k u8) (get_or (start c).args.v.now c.loop-k.k (pos 0))
-tested c =
-    let told : field_of c.field_of-field.result ≡ get_or (all (start c)) c.loop-k.k u8 = c.field_of-field.ensures (start c).args.flowgates (inside c) in
-    rw (to_z-of_z (sfits_of {w = w64} c.number-1.given), told)
+-- what the call that tests a number answers, by the list
+tested : (fs : List Field) (vs : List ℤ) (k : ℕ) (f : Field) (v : ℤ) (r : Bool) → f ≡ get_or fs k u8 → v ≡ get_or vs k (pos 0) → r ≡ fits_field f v → r ≡ fits_field (get_or fs k u8) (get_or vs k (pos 0))
+tested fs vs k f v r ef ev er = er ∙ rw (ef, ev)
 
 pub returns-then-v-count : goal.returns-then-v-count
-returns-then-v-count c = let e = c.count-count.ensures in length_differs (all (goal.at.returns-then-v-count c).Start) c.args.v.now (λ h. absurd (omega arith))
+returns-then-v-count c =
+    let e = c.count-count.ensures in length_differs (fields_of c.args.file c.args.resources c.args.zones c.args.flowgates) c.args.v.now (λ h. absurd (omega arith))
 
 pub loop-k-init : goal.loop-k-init
 unfolding numbers_fit
-loop-k-init c = search rules
+loop-k-init c = (omega arith, refl)
 
 pub returns-then-not-fits : goal.returns-then-not-fits
-returns-then-not-fits c = let s = start (goal.at.returns-then-not-fits c).After-number-1 in misfit (all s) s.args.v.now c.loop-k.k (inside (goal.at.returns-then-not-fits c).After-number-1) (same (goal.at.returns-then-not-fits c).After-number-1) (failed (c.fits2.ensures ∙ tested (goal.at.returns-then-not-fits c).After-number-1) c.if-not-fits.true-raw)
+returns-then-not-fits c =
+    let fs = fields_of c.args.file c.args.resources c.args.zones c.args.flowgates in
+    let k = c.loop-k.k in
+    let inside : k < length fs = omega arith in
+    let fit : SFits w64 (get_or c.args.v.now k (pos 0)) = search rules in
+    let t = tested fs c.args.v.now k _ _ c.fits.result (c.field_of-field.ensures c.args.flowgates inside) (to_z-of_z fit) c.fits.ensures in
+    misfit fs c.args.v.now k inside (omega arith) (sym t ∙ c.if-not-fits.true)
 
 pub loop-k-preserved : goal.loop-k-preserved
-loop-k-preserved c = let s = start (goal.at.loop-k-preserved c).After-number-1 in let l = c.loop-k in (omega arith, fit_more (all s) s.args.v.now l.k (same (goal.at.loop-k-preserved c).After-number-1) (inside (goal.at.loop-k-preserved c).After-number-1) l.invariant.1 (passed (c.fits2.ensures ∙ tested (goal.at.loop-k-preserved c).After-number-1) c.if-not-fits.false-raw))
+loop-k-preserved c =
+    let fs = fields_of c.args.file c.args.resources c.args.zones c.args.flowgates in
+    let k = c.loop-k.k in
+    let inside : k < length fs = omega arith in
+    let fit : SFits w64 (get_or c.args.v.now k (pos 0)) = search rules in
+    let t = tested fs c.args.v.now k _ _ c.fits.result (c.field_of-field.ensures c.args.flowgates inside) (to_z-of_z fit) c.fits.ensures in
+    (omega arith, fit_more fs c.args.v.now k (omega arith) inside c.loop-k.invariant.1 (sym t ∙ c.if-not-fits.false))

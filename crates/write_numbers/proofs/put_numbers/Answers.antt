@@ -1,61 +1,81 @@
 use mathlib.Core.List.{List}
-use mathlib.Core.Bool.{true}
 use mathlib.Core.Path.{◌≡◌, refl, sym, ◌∙◌, ap}
-use Prim.Native.Nat.{ℕ, ◌+◌, ◌-◌, ◌<◌, ◌≤◌}
+use Prim.Native.Nat.{ℕ, ◌+◌, ◌<◌, ◌≤◌}
 use native.Mathlib.Omega.{arith}
-use lib.IntN.{pos}
-use lib.ListN.{length, get_or}
+use lib.IntN.{ℤ, pos}
+use lib.ListN.{length, get_or, take}
 use mir.Syntax.{w64}
 use mir.Facts.{to_z-of_z}
-use borrow.Author.Rules.{sfits_of}
+use mir.Val.{SFits}
+use borrow.Author.Rules.{rules}
 use Rattle.arith.specs.Sums.{total_of}
 use Rattle.market.proofs.FieldBytes.{field_length}
 use Rattle.market.specs.Numbers.{Field, u8, field_width, field_bytes, bytes_of}
 use Rattle.wire.specs.Within.{written}
-use Rattle.fields.specs.Layout.{field_of, fields_of}
+use Rattle.fields.specs.Layout.{fields_of}
 use Rattle.fields.proofs.Walk.{width_next, width_within}
-use Rattle.write_numbers.proofs.Walked.{fits_field, fit_length, fit_at, bytes_whole}
+use Rattle.write_numbers.proofs.Walked.{fit_length, fit_at, bytes_whole}
 use Rattle.write_numbers.proofs.Stored.{written_none, written_length, put_next}
 use Rattle.write_numbers.proofs.put_numbers.Goals as goal
-use Rattle.write_numbers.proofs.put_numbers.Goals.{After-field_of-field, Start}
 
-abbrev all : (c : Start) → List Field
-all c = fields_of c.args.file c.args.resources c.args.zones c.args.flowgates
+-- the field that the loop has reached fits in the buffer
+room : (fs : List Field) (k at : ℕ) (out : List ℕ) → k < length fs → at ≡ 5 + total_of field_width (take k fs) → 5 + total_of field_width fs ≤ length out → at + field_width (get_or fs k u8) ≤ length out
+room fs k at out h e l = omega (arith, width_within fs k h)
 
-abbrev start : (c : After-field_of-field) → tie.Start invariant-loop decreases-loop
-start c = c.before.before.before.before
-
-same : (c : Start) → length (all c) ≡ length c.args.v.now
-same c = fit_length (all c) c.args.v.now c.requires.0.fit
-
-inside : (c : After-field_of-field) → c.loop-k.k < length (all (start c))
-inside c = omega (arith, same (start c))
-
-told : (c : After-field_of-field) → field_of c.field_of-field.result ≡ get_or (all (start c)) c.loop-k.k u8
-told c = c.field_of-field.ensures (start c).args.flowgates (inside c)
-
-room : (c : After-field_of-field) → c.loop-k.at + field_width (get_or (all (start c)) c.loop-k.k u8) ≤ length c.loop-k.out
-room c = omega (arith, width_within (all (start c)) c.loop-k.k (inside c))
-
-fit-here : (c : After-field_of-field) → fits_field (get_or (all (start c)) c.loop-k.k u8) (get_or (start c).args.v.now c.loop-k.k (pos 0)) ≡ true
-fit-here c = fit_at (all (start c)) (start c).args.v.now c.loop-k.k (start c).requires.0.fit (inside c)
+-- and what is written there
+put : (fs : List Field) (vs : List ℤ) (k at : ℕ) (f : Field) (v : ℤ) (out last : List ℕ) → f ≡ get_or fs k u8 → v ≡ get_or vs k (pos 0) → last ≡ written at (field_bytes f v) out → last ≡ written at (field_bytes (get_or fs k u8) (get_or vs k (pos 0))) out
+put fs vs k at f v out last ef ev e = e ∙ rw (ef, ev)
 
 pub loop-k-init : goal.loop-k-init
 unfolding bytes_of total_of
 loop-k-init c = (omega arith, refl, refl, sym (written_none 5 c.args.out.now))
 
 pub put_number-requires : goal.put_number-requires
-put_number-requires c = rw (told (goal.at.put_number-requires c).After-field_of-field, to_z-of_z (sfits_of {w = w64} c.number-1.given)) (room (goal.at.put_number-requires c).After-field_of-field, record { fits = fit-here (goal.at.put_number-requires c).After-field_of-field })
+put_number-requires c =
+    let fs = fields_of c.args.file c.args.resources c.args.zones c.args.flowgates in
+    let v = c.args.v.now in
+    let k = c.loop-k.k in
+    let same : length fs ≡ length v = fit_length fs v c.requires.0.fit in
+    let inside : k < length fs = omega arith in
+    let told = c.field_of-field.ensures c.args.flowgates inside in
+    let fit : SFits w64 (get_or v k (pos 0)) = search rules in
+    rw (told, to_z-of_z fit) (room fs k c.loop-k.at c.loop-k.out inside c.loop-k.invariant.2 (omega arith), record { fits = fit_at fs v k c.requires.0.fit inside })
+
+pub overflow_add-at : goal.overflow_add-at
+overflow_add-at c =
+    let fs = fields_of c.args.file c.args.resources c.args.zones c.args.flowgates in
+    let v = c.args.v.now in
+    let k = c.loop-k.k in
+    let same : length fs ≡ length v = fit_length fs v c.requires.0.fit in
+    let inside : k < length fs = omega arith in
+    let told = c.field_of-field.ensures c.args.flowgates inside in
+    let w : c.width-at.result ≡ field_width (get_or fs k u8) = c.width-at.ensures ∙ ap field_width told in
+    let m = room fs k c.loop-k.at c.loop-k.out inside c.loop-k.invariant.2 (omega arith) in
+    omega arith
 
 pub loop-k-preserved : goal.loop-k-preserved
-loop-k-preserved c = let s = start (goal.at.loop-k-preserved c).After-field_of-field in let l = c.loop-k in
-    let w : c.width-at.result ≡ field_width (get_or (all s) l.k u8) = c.width-at.ensures ∙ ap field_width (told (goal.at.loop-k-preserved c).After-field_of-field) in
-    let put : c.put_number.new.out ≡ written l.at (field_bytes (get_or (all s) l.k u8) (get_or s.args.v.now l.k (pos 0))) l.out = c.put_number.ensures ∙ rw (to_z-of_z (sfits_of {w = w64} c.number-1.given), told (goal.at.loop-k-preserved c).After-field_of-field) in (
+loop-k-preserved c =
+    let fs = fields_of c.args.file c.args.resources c.args.zones c.args.flowgates in
+    let v = c.args.v.now in
+    let l = c.loop-k in
+    let k = l.k in
+    let same : length fs ≡ length v = fit_length fs v c.requires.0.fit in
+    let inside : k < length fs = omega arith in
+    let told = c.field_of-field.ensures c.args.flowgates inside in
+    let fit : SFits w64 (get_or v k (pos 0)) = search rules in
+    let w : c.width-at.result ≡ field_width (get_or fs k u8) = c.width-at.ensures ∙ ap field_width told in
+    let m = room fs k l.at l.out inside l.invariant.2 (omega arith) in
+    let p = put fs v k l.at _ _ l.out c.put_number.new.out told (to_z-of_z fit) c.put_number.ensures in (
       omega arith,
-      ap length put ∙ written_length l.at (field_bytes (get_or (all s) l.k u8) (get_or s.args.v.now l.k (pos 0))) l.out (omega (arith, room (goal.at.loop-k-preserved c).After-field_of-field, field_length (get_or (all s) l.k u8) (get_or s.args.v.now l.k (pos 0)))) ∙ l.invariant.1,
-      omega (arith, w, width_next (all s) l.k (inside (goal.at.loop-k-preserved c).After-field_of-field)),
-      put_next (all s) s.args.v.now (same s) s.args.out.now s.pre.1 l.k l.at l.out _ (inside (goal.at.loop-k-preserved c).After-field_of-field) l.invariant.2 l.invariant.3 put,
+      ap length p ∙ written_length l.at (field_bytes (get_or fs k u8) (get_or v k (pos 0))) l.out (omega (arith, field_length (get_or fs k u8) (get_or v k (pos 0)))) ∙ l.invariant.1,
+      omega (arith, width_next fs k inside),
+      put_next fs v same c.args.out.now c.requires.1 k l.at l.out c.put_number.new.out inside l.invariant.2 l.invariant.3 p,
     )
 
 pub returns : goal.returns
-returns c = let l = c.loop-k in l.invariant.3 ∙ ap (λ (x : List ℕ). written 5 x c.args.out.now) (bytes_whole (all (goal.at.returns c).Start) c.args.v.now l.k (same (goal.at.returns c).Start) (omega (arith, same (goal.at.returns c).Start)))
+returns c =
+    let fs = fields_of c.args.file c.args.resources c.args.zones c.args.flowgates in
+    let v = c.args.v.now in
+    let l = c.loop-k in
+    let same : length fs ≡ length v = fit_length fs v c.requires.0.fit in
+    l.invariant.3 ∙ ap (λ (x : List ℕ). written 5 x c.args.out.now) (bytes_whole fs v l.k same (omega arith))
