@@ -57,28 +57,27 @@ module _ {b q : List ℕ} {r z f : ℕ} (s : Standing b q r z f) (g : ℕ) (h : 
   pub sum_room : (i : ℕ) → i < r → nat_abs (flow_from part b q g i) + nat_abs ((case_of b).shift_factor g i) * nat_abs (part (energy_of q i)) < range32
   sum_room i k = omega (arith, sum_small i (omega arith), product_small i k, s.prices.case_bytes.counts.most_resources)
 
-  -- a turn of the loop: the sum so far as bits, the resource's factor and its part
-  module _ (i : ℕ) (k : i < r) {bits : ℕ} {c v : ℤ} (so_far : bits ≡ of_z w32 (flow_from part b q g i)) (factor-is : c ≡ (case_of b).shift_factor g i) (part-is : v ≡ part (energy_of q i)) where
-    sum_read : to_z w32 bits ≡ flow_from part b q g i
-    sum_read = ap (to_z w32) so_far ∙ read_32 (sum-range i (omega arith))
-
+  -- a turn of the loop: the sum so far, the resource's factor and its part
+  module _ (i : ℕ) (k : i < r) {so_far c v : ℤ} (sum_read : so_far ≡ flow_from part b q g i) (factor-is : c ≡ (case_of b).shift_factor g i) (part-is : v ≡ part (energy_of q i)) where
     factor_read : to_z w32 (of_z w32 c) ≡ (case_of b).shift_factor g i
     factor_read = rw factor-is (read_32 (omega (arith, factor_size_lem s.prices g i h k)))
 
     part_read : to_z w16 (of_z w16 v) ≡ part (energy_of q i)
     part_read = rw part-is (to_z-of_z (fits-abs {w = w16} (omega (arith, small (energy_of q i) (amount_small s i energy k)))))
 
-    pub turn_room : nat_abs (to_z w32 bits) + nat_abs (to_z w32 (of_z w32 c)) * nat_abs (to_z w16 (of_z w16 v)) < range32
+    pub turn_room : nat_abs (so_far) + nat_abs (to_z w32 (of_z w32 c)) * nat_abs (to_z w16 (of_z w16 v)) < range32
     turn_room = rw (sum_read, factor_read, part_read) (sum_room i k)
 
-    pub turn_sum : to_z w32 bits +ℤ to_z w32 (of_z w32 c) *ℤ to_z w16 (of_z w16 v) ≡ flow_from part b q g (i + 1)
-    turn_sum = rw (sum_read, factor_read, part_read) (sym (sum-upto (λ j. (case_of b).shift_factor g j *ℤ part (energy_of q j)) i))
+    one_more : so_far +ℤ to_z w32 (of_z w32 c) *ℤ to_z w16 (of_z w16 v) ≡ flow_from part b q g (i + 1)
+    one_more = rw (sum_read, factor_read, part_read) (sym (sum-upto (λ j. (case_of b).shift_factor g j *ℤ part (energy_of q j)) i))
 
--- at the end, at n of r resources: what flows, from the two sums as bits
-module _ {b q : List ℕ} {r z f : ℕ} (s : Standing b q r z f) (g : ℕ) (h : g < f) {n highs lows : ℕ} (end : n ≡ r) where
-  pub flow_is : highs ≡ of_z w32 (flow_from high_of b q g n)
-      → lows ≡ of_z w32 (flow_from low_of b q g n)
-      → pos high_unit *ℤ to_z w32 highs +ℤ to_z w32 lows ≡ flow_from pos b q g r
+    pub turn_sum : {sum : ℤ} → sum ≡ so_far +ℤ to_z w32 (of_z w32 c) *ℤ to_z w16 (of_z w16 v) → to_z w32 (of_z w32 sum) ≡ flow_from part b q g (i + 1)
+    turn_sum e = rw (e ∙ one_more) (read_32 (sum-range (i + 1) (omega arith)))
+
+-- at the end, at n of r resources: what flows, from the two sums
+module _ {b q : List ℕ} {r z f : ℕ} (s : Standing b q r z f) (g : ℕ) (h : g < f) {n : ℕ} {highs lows : ℤ} (end : n ≡ r) where
+  pub flow_is : highs ≡ flow_from high_of b q g n
+      → lows ≡ flow_from low_of b q g n
+      → pos high_unit *ℤ highs +ℤ lows ≡ flow_from pos b q g r
   flow_is high_is low-is =
-      rw (high_is, low-is, end, read_32 (sum-range s g h high_of high_small r (omega arith)), read_32 (sum-range s g h low_of low_small r (omega arith)))
-      (flow_in_parts b q g r)
+      rw (high_is, low-is, end) (flow_in_parts b q g r)

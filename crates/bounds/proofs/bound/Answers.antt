@@ -1,0 +1,10 @@
+use mathlib.Core.Path.{◌∙◌, ap}
+use Rattle.market.specs.Bound.{bound}
+use Rattle.market.specs.Records.{grains}
+use Rattle.bounds.proofs.PricedTerms.{bound_is}
+use Rattle.bounds.proofs.bound.Goals as goal
+
+pub returns : goal.returns
+unfolding bound
+returns c =
+    ap grains (c.plus.ensures.is ∙ rw (c.plus-rest.ensures.is, c.common_terms-common.ensures.is, c.requires.1.is, c.curves_least-cleared.ensures.is) (bound_is c.requires.0.prices))

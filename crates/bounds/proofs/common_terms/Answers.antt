@@ -1,0 +1,26 @@
+use mathlib.Core.Path.{◌≡◌, ◌∙◌}
+use Prim.Native.Nat.{◌≤◌}
+use native.Mathlib.Omega.{arith}
+use lib.IntN.{nat_abs}
+use Rattle.market.specs.Sizes.{most_demand}
+use Rattle.market.specs.Rows.{balance_row, right_side}
+use Rattle.bounds.specs.Terms.{row_term}
+use Rattle.bounds.proofs.RowTerms.{balance_room}
+use Rattle.bounds.proofs.common_terms.Goals as goal
+use Rattle.bounds.proofs.common_terms.Goals.{After-demand-demand, After-worth-balance}
+
+pub worth-balance-requires : goal.worth-balance-requires
+worth-balance-requires c = rw (c.balance_price-price.ensures, c.demand-demand.ensures) (balance_room c.requires)
+
+demand-most : (c : After-demand-demand) → nat_abs c.demand-demand.result.0 ≤ most_demand
+demand-most c = rw c.demand-demand.ensures (balance_room c.requires).right_side
+
+balance : (c : After-worth-balance) → c.worth-balance.result.0 ≡ row_term c.args.b.now c.args.q.now balance_row
+unfolding right_side
+balance c = c.worth-balance.ensures.is ∙ rw (c.balance_price-price.ensures, c.demand-demand.ensures)
+
+pub plus-requires : goal.plus-requires
+plus-requires c = omega (arith, demand-most (goal.at.plus-requires c).After-demand-demand)
+
+pub returns : goal.returns
+returns c = record { is = cc (balance (goal.at.returns c).After-worth-balance); size = omega (arith, demand-most (goal.at.returns c).After-demand-demand) }

@@ -1,0 +1,51 @@
+use mathlib.Core.Path.{ap, ◌∙◌}
+use Prim.Native.Nat.{◌-◌}
+use native.Mathlib.Omega.{arith}
+use mir.Syntax.{w32}
+use mir.Val.{of_z}
+use borrow.Author.Rules.{rules}
+use Rattle.arith.specs.Sums.{sum_of, upto}
+use Rattle.market.specs.Records.{watts}
+use Rattle.flows.specs.Parts.{high_of, low_of}
+use Rattle.flows.proofs.Fit.{high_small, low_small}
+use Rattle.flows.proofs.PartSums.{turn_room, turn_sum, flow_is}
+use Rattle.flows.proofs.flow.Goals as goal
+
+pub loop-i-init : goal.loop-i-init
+unfolding sum_of upto
+loop-i-init c = search rules
+
+pub factor_at-factor-requires : goal.factor_at-factor-requires
+factor_at-factor-requires c = (c.requires.standing.0, (c.requires.standing.1, omega arith))
+
+pub bounds-high-i : goal.bounds-high-i
+bounds-high-i c = omega (arith, c.requires.energy_parts.high.long)
+
+pub added-highs-requires : goal.added-highs-requires
+added-highs-requires c =
+    let l = c.loop-i in
+    turn_room c.requires.standing.0 c.args.g c.requires.standing.1 high_of high_small l.i (omega arith) l.invariant.1 c.factor_at-factor.ensures (c.requires.energy_parts.high.each l.i (omega arith))
+
+pub bounds-low-i : goal.bounds-low-i
+bounds-low-i c = omega (arith, c.requires.energy_parts.low.long)
+
+pub added-lows-requires : goal.added-lows-requires
+added-lows-requires c =
+    let l = c.loop-i in
+    turn_room c.requires.standing.0 c.args.g c.requires.standing.1 low_of low_small l.i (omega arith) l.invariant.2 c.factor_at-factor.ensures (c.requires.energy_parts.low.each l.i (omega arith))
+
+pub loop-i-preserved : goal.loop-i-preserved
+loop-i-preserved c =
+    let l = c.loop-i in
+    let factor-is = c.factor_at-factor.ensures in
+    let high_is = c.requires.energy_parts.high.each l.i (omega arith) in
+    let low-is = c.requires.energy_parts.low.each l.i (omega arith) in (
+      omega arith,
+      turn_sum c.requires.standing.0 c.args.g c.requires.standing.1 high_of high_small l.i (omega arith) l.invariant.1 factor-is high_is c.added-highs.ensures,
+      turn_sum c.requires.standing.0 c.args.g c.requires.standing.1 low_of low_small l.i (omega arith) l.invariant.2 factor-is low-is c.added-lows.ensures,
+    )
+
+pub returns : goal.returns
+returns c =
+    let l = c.loop-i in
+    c.joined.ensures ∙ ap watts (flow_is c.requires.standing.0 c.args.g c.requires.standing.1 (omega arith) l.invariant.1 l.invariant.2)
