@@ -18,7 +18,7 @@ use Rattle.rows.proofs.flowgates_over.Goals as goal
 use Rattle.rows.proofs.flowgates_over.Goals.{After-flowgate_over-n}
 
 pub write_energies-requires : goal.write_energies-requires
-write_energies-requires c = ((c.requires.0.prices.certificate_bytes, energy_bounded c.requires.0), (c.requires.0.prices.case_bytes.counts.most_resources, c.requires.0.prices.case_bytes.counts.most_resources))
+write_energies-requires c = record { certificate_bytes = (c.requires.0.prices.certificate_bytes, energy_bounded c.requires.0); r_in_bounds = (c.requires.0.prices.case_bytes.counts.most_resources, c.requires.0.prices.case_bytes.counts.most_resources) }
 
 pub loop-g-init : goal.loop-g-init
 loop-g-init c = (omega arith, omega arith, search_none (row_met (case_of c.args.b.now) (certificate_of c.args.q.now)) RowBroken (λ g. flowgate_row g ∷ []) 1 (λ i. refl) c.args.first)

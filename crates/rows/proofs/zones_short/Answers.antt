@@ -24,10 +24,11 @@ loop-zone-init c = (omega arith, omega arith, search_none (row_met (case_of c.ar
 
 pub zone_short-n-requires : goal.zone_short-n-requires
 zone_short-n-requires c =
-    let zone = c.loop-zone.zone in (
-      (c.requires.0, (omega arith, record { to = omega (arith, c.requires.0.prices.case_bytes.counts.most_zones) })),
-      rw c.requires.1 (table_entry _ (zone_total c.args.b.now c.args.q.now c.args.r) 8 zone (in_array (goal.at.zone_short-n-requires c).In-loop-zone)),
-    )
+    let zone = c.loop-zone.zone in
+    record {
+      standing = (c.requires.0, (omega arith, record { to = omega (arith, c.requires.0.prices.case_bytes.counts.most_zones) }));
+      have_value = rw c.requires.1 (table_entry _ (zone_total c.args.b.now c.args.q.now c.args.r) 8 zone (omega (arith, c.requires.0.prices.case_bytes.counts.most_zones)));
+    }
 
 told : (c : After-zone_short-n) →
     let i = c.loop-zone.zone in
