@@ -1,0 +1,64 @@
+use mathlib.Core.List.{List, ◌++◌, map}
+use mathlib.Core.Path.{◌≡◌, refl, ap, ◌∙◌}
+use Prim.Native.Nat.{◌≤◌}
+use native.Mathlib.Omega.{arith}
+use lib.ListN.{length, drop}
+use lib.IntN.{ℤ, nat_abs}
+use Rattle.market.specs.Cost.{resource_priced_count}
+use Rattle.arith.specs.Sums.{upto}
+use Rattle.market.specs.Records.{record_of, offer_steps_of}
+use Rattle.market.specs.CaseFile.{case_of}
+use Rattle.market.specs.Availability.{on_line}
+use Rattle.limits.specs.Together.{reserve_bounds_of}
+use Rattle.arith.proofs.Buffers.{rest_length, write_on}
+use Rattle.charges.specs.Terms.{energy_charge, reserve_charges}
+use Rattle.charges.proofs.Families.{numbers_count}
+use Rattle.charges.proofs.Known.{nets_fit, steps_fit, reserves_fit, bounds_fit, resource_listed}
+use Rattle.charges.proofs.write_resource.Goals as goal
+use Rattle.charges.proofs.write_resource.Goals.{After-bounds_at-uppers, After-offer_steps_at-steps, After-on_line_at-on, After-resource_at-resource, After-write_steps}
+
+resource : (c : After-resource_at-resource) →
+    c.resource_at-resource.result ≡ record_of ((case_of c.args.b.now).resource c.args.i)
+resource c = c.resource_at-resource.ensures
+
+steps : (c : After-offer_steps_at-steps) →
+    c.offer_steps_at-steps.result ≡ offer_steps_of ((case_of c.args.b.now).resource c.args.i)
+steps c = c.offer_steps_at-steps.ensures
+
+on_line_is : (c : After-on_line_at-on) → c.on_line_at-on.result ≡ on_line ((case_of c.args.b.now).resource c.args.i)
+on_line_is c = c.on_line_at-on.ensures (case_of c.args.b.now) (c.requires.standing.1.1.each c.args.i c.requires.standing.0.1)
+
+bounds : (c : After-bounds_at-uppers) → c.bounds_at-uppers.result ≡ reserve_bounds_of (case_of c.args.b.now) ((case_of c.args.b.now).resource c.args.i)
+bounds c = c.bounds_at-uppers.ensures (case_of c.args.b.now) (c.requires.standing.1.1.each c.args.i c.requires.standing.0.1)
+
+room : (c : After-write_steps) → resource_priced_count ≤ length c.write_steps.new.out
+room c = omega (arith, c.write_steps.auto.out, c.requires.standing.1.0)
+
+pub write_steps-requires : goal.write_steps-requires
+write_steps-requires c =
+    let p = c.requires.standing.0.0 in
+    let l = c.requires.standing.0.1 in
+    let room : 10 ≤ length c.args.out.now = omega (arith, c.requires.standing.1.0) in
+    ((nets_fit p l c.nets_for-prices.ensures, steps_fit p l (steps (goal.at.write_steps-requires c).After-offer_steps_at-steps) c.amounts_at-amounts.ensures), room)
+
+pub write_reserves-requires : goal.write_reserves-requires
+write_reserves-requires c =
+    let p = c.requires.standing.0.0 in
+    let l = c.requires.standing.0.1 in (
+      (nets_fit p l c.nets_for-prices.ensures, (reserves_fit p l c.amounts_at-amounts.ensures, bounds_fit p l (bounds (goal.at.write_reserves-requires c).After-bounds_at-uppers))),
+      rw (rest_length 10 c.write_steps.new.out) (omega (arith, room (goal.at.write_reserves-requires c).After-write_steps)),
+    )
+
+pub returns : goal.returns
+returns c =
+    let n = c.nets_for-prices in
+    let a = c.amounts_at-amounts in
+    let on = c.on_line_at-on in
+    let u = c.bounds_at-uppers in
+    let p = c.offer_steps_at-steps.result in
+    let w = c.write_steps in
+    let x = c.write_reserves in
+    let o = c.args.out.now in
+    let g = energy_charge n.result on.result p (nat_abs a.result.energy.0) in
+    write_on (map g (upto 10)) (reserve_charges n.result a.result u.result) o w.new.out x.new.out 10 4 10 (numbers_count g 10) refl (omega (arith, c.requires.standing.1.0)) w.ensures x.ensures
+    ∙ ap (λ (l : List ℤ). l ++ drop resource_priced_count o) (resource_listed c.requires.standing.0.0 c.requires.standing.0.1 n.ensures (on_line_is (goal.at.returns c).After-on_line_at-on) (steps (goal.at.returns c).After-offer_steps_at-steps) a.ensures (bounds (goal.at.returns c).After-bounds_at-uppers))
