@@ -17,7 +17,7 @@ version = $(shell sed -n 's/^.define NOSTWIER_VERSION "\(.*\)"$$/\1/p' include/n
 
 help:
 	@echo 'make demo    prove and build the program, run it on the shipped example and explain what it prints (log: target/demo.log)'
-	@echo 'make test    run every test: the proofs of all crates from nothing, then tests/*/run'
+	@echo 'make test    run every test: the proofs of all crates, then tests/*/run'
 	@echo 'make check   prove the crates that have changed, and run the program'
 	@echo 'make lib     prove the library and write target/staticlib/libnostwier.a and target/lib/libnostwier.so'
 	@echo 'make install put both programs, headers, libraries, nostwier.pc and manual pages below DESTDIR and PREFIX=/usr/local'
