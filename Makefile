@@ -6,7 +6,7 @@ PREFIX ?= /usr/local
 DESTDIR ?=
 INSTALL ?= install
 
-# The static library is what rt proves and compiles; the shared one is made from it and has nothing more.
+# The static library is what rt proves and compiles (packaging/build); the shared one is made from it and has nothing more.
 static_library = target/staticlib/libnostwier.a
 shared_library = target/lib/libnostwier.so.1
 headers = include/nostwier.h include/nostwier_refusals.h
@@ -17,8 +17,8 @@ version = $(shell sed -n 's/^.define NOSTWIER_VERSION "\(.*\)"$$/\1/p' include/n
 
 help:
 	@echo 'make demo    prove and build the program, run it on the shipped example and explain what it prints (log: target/demo.log)'
-	@echo 'make test    run every test: the proofs of all crates from nothing, then tests/*/run'
-	@echo 'make check   prove the crates that have changed, and run the programs'
+	@echo 'make test    run every test: the proofs of all crates, then tests/*/run'
+	@echo 'make check   prove the crates that have changed, and run the program'
 	@echo 'make lib     prove the library and write target/staticlib/libnostwier.a and target/lib/libnostwier.so'
 	@echo 'make install put both programs, headers, libraries, nostwier.pc and manual pages below DESTDIR and PREFIX=/usr/local'
 	@echo 'make soak    a C host against the reference on N=1000000 calls of each operation, from a seed that it prints'
@@ -31,30 +31,32 @@ test:
 	bash .ci/run
 
 check:
-	rt check
+	rt all check
+	packaging/build program
 
 fmt:
-	rt fmt
+	for crate in crates/*/; do (cd "$$crate" && rt fmt) || exit 1; done
 
 lib:
-	rt staticlib nostwier
+	packaging/build library
 	@$(MAKE) -s shared
 
 # Both libraries, from what is proved already if it is there.
 shared: $(shared_library)
 
 $(static_library):
-	rt staticlib nostwier
+	packaging/build library
 
+# The library's second name is a copy, and no link, which rt ci would refuse.
 $(shared_library): $(static_library) packaging/nostwier.map
 	mkdir -p target/lib
 	$(CC) -shared -nostartfiles -o $@ -Wl,-soname,libnostwier.so.1 -Wl,--version-script=packaging/nostwier.map \
 	    -Wl,--whole-archive $(static_library) -Wl,--no-whole-archive \
 	    -Wl,--as-needed -Wl,-z,defs -Wl,-z,relro -Wl,-z,now -Wl,-z,noexecstack
-	ln -sf libnostwier.so.1 target/lib/libnostwier.so
+	cp $@ target/lib/libnostwier.so
 
 $(program):
-	rt check nostwier_cli
+	packaging/build program
 
 install: shared $(program)
 	$(INSTALL) -d '$(DESTDIR)$(PREFIX)/bin' '$(DESTDIR)$(PREFIX)/include' '$(DESTDIR)$(PREFIX)/lib/pkgconfig' \
@@ -72,7 +74,7 @@ install: shared $(program)
 	@echo "for 'import nostwier' in programs of your own: pip install ./python, or put $(PREFIX)/share/nostwier on PYTHONPATH."
 
 demo:
-	@packaging/progress target/demo.log 'rt check nostwier_cli' 'make -s lib'
+	@packaging/progress target/demo.log 'rt all check' 'packaging/build program' 'make -s lib'
 	@echo
 	@examples/demo
 

@@ -61,7 +61,7 @@ def verdicts(repository):
     run = subprocess.run(["rt", "must-fail", "market"], cwd=repository, stdout=subprocess.PIPE, stderr=subprocess.STDOUT, text=True)
     found = {}
     for line in run.stdout.splitlines():
-        match = re.match(r"rt: must-fail market/(\w+): (.*)", line)
+        match = re.match(r"rt: must-fail market/(\w+)\.edit: (.*)", line)
         if match:
             found[match.group(1)] = match.group(2)
     return found
@@ -71,15 +71,15 @@ def main():
     with open(os.path.join(TOP, PAGE), encoding="utf8") as page:
         listed, wrong = survivors(page.read())
     with tempfile.TemporaryDirectory() as repository:
-        shutil.copytree(os.path.join(TOP, "crates"), os.path.join(repository, "crates"))
+        shutil.copytree(os.path.join(TOP, "crates"), os.path.join(repository, "crates"), ignore=shutil.ignore_patterns("out"))
         shutil.copy(os.path.join(TOP, "crates.txt"), repository)
         absent = write_edits(repository)
         found = verdicts(repository)
     failed = 0
     for name, _, _, _ in EDITS:
         said = "its old text does not stand in the file once" if name in absent else found.get(name, "rt said nothing of it")
-        # a refusal inside specs/ only says that the edited text is no definition
-        refused = said.startswith("refused") and "first at specs/" not in said
+        # a refusal inside specs/ only says that the edited text is no definition, and one of a name that it had, that it lacks it
+        refused = said.startswith("refused") and not re.match(r"[^:]*: (note: )?(\./)?specs/", said) and "only because" not in said
         survives = said.startswith("NOT REFUSED")
         good = survives if name in listed else refused
         failed += not good

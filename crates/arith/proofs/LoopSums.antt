@@ -1,5 +1,5 @@
 -- A sum that a loop makes over the numbers below n, in a unit: what stands before the first turn, after one more, and at the end.
--- A proof's invariant is `SumTo n j sum`; its three needs are `no-turn-yet`, `one-turn-more`, `last-turn-over`.
+-- A proof's invariant is `SumTo n j sum`; its three needs are `no_turn_yet`, `one_turn_more`, `last_turn_over`.
 use mathlib.Core.Path.{◌≡◌, refl, ◌∙◌}
 use Prim.Native.Nat.{ℕ, ◌+◌, ◌<◌, ◌≤◌}
 use native.Mathlib.Omega.{arith}

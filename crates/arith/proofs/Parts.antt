@@ -1,5 +1,5 @@
--- The positive part P and the negative part N of an integer, z = P z - N z, and how an order or an equation of integers
--- is one of natural numbers by them, which is what `omega` reads.
+-- The positive part and the negative part of an integer, z = plus_part z - minus_part z, and how an order or an equation of
+-- integers is one of natural numbers by them, which is what `omega` reads.
 use mathlib.Core.Path.{◌≡◌, refl, ap}
 use mathlib.Core.Bool.{Bool, true, false, not, cond}
 use Prim.Native.Nat.{ℕ, zero, suc, ◌+◌, ◌*◌, ◌-◌, ◌<◌, ◌≤◌, min}

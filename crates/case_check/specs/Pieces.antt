@@ -1,4 +1,4 @@
--- Grounds 6 and 7 piece by piece, as the code tests them: parts of `stepsRule` and `limitsOrdered` of market's CaseCheck.
+-- Grounds 6 and 7 piece by piece, as the code tests them: parts of `steps_rule` and `limits_ordered` of market's CaseCheck.
 use Rattle.std.specs.Prelude.{ℕ, ◌+◌, Bool, true, pos}
 use Rattle.market.specs.Case.{Case, Resource, Curve, curve_steps}
 use Rattle.market.specs.CaseCheck.{steps_follow, steps_right, never_falls, never_rises, energy_steps_right, pairs_ordered}

@@ -1,4 +1,4 @@
--- Ground 5 piece by piece, as the code tests it: parts of `resourceInRange` and `fieldsInRange` of market's CaseCheck, and what
+-- Ground 5 piece by piece, as the code tests it: parts of `resource_in_range` and `fields_in_range` of market's CaseCheck, and what
 -- the tests ask of the places that they are given.
 use Rattle.std.specs.Prelude.{Bool, ◌&&◌, List, ◌≡◌, ℕ, ◌+◌, ◌*◌, ◌<◌, ◌≤◌}
 use Rattle.arith.specs.Sums.{upto, all}

@@ -1,5 +1,5 @@
--- What grounds 5, 6 and 7 ask of a resource, together: in the words of `resourceInRange`, `energyStepsRight` and `pairsOrdered` of
--- market's CaseCheck, and of their parts.
+-- What grounds 5, 6 and 7 ask of a resource, together: in the words of `resource_in_range`, `energy_steps_right` and `pairs_ordered`
+-- of market's CaseCheck, and of their parts.
 use Rattle.std.specs.Prelude.{◌≡◌, ℕ, true, nat_le}
 use Rattle.arith.specs.Sums.{upto, all}
 use Rattle.market.specs.Bytes.{within}

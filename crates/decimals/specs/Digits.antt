@@ -1,4 +1,4 @@
--- A number's digits from the last to the first, and how many there are: market's `digitsOn` without its tail.
+-- A number's digits from the last to the first, and how many there are: market's `digits_on` without its tail.
 use Rattle.std.specs.Prelude.{true, false, List, [], ◌∷◌, ◌++◌, ℕ, zero, suc, ◌+◌, ◌/◌, ◌%◌, ltb}
 
 -- as many as fuel allows

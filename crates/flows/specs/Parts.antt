@@ -18,7 +18,7 @@ most_energy = 2000000
 pub record EnergyBounded (q : List ℕ) (resources : ℕ) : Type 0 where
   pub most : (i : ℕ) → i < resources → energy_of q i ≤ most_energy
 
--- an energy is highUnit × its high part + its low part, each at most mostPart
+-- an energy is high_unit × its high part + its low part, each at most most_part
 abbrev pub high_unit : ℕ
 high_unit = 2048
 

@@ -1,4 +1,4 @@
--- market's `availabilityOf` by its parts, of a record's state.
+-- market's `availability_of` by its parts, of a record's state.
 use mathlib.Core.Path.{◌≡◌, refl, sym, ap, ◌∙◌}
 use mathlib.Core.Bool.{Bool, true, false, not, cond, true≢false, ◌&&◌, ◌||◌}
 use Prim.Native.Nat.{ℕ}

@@ -1,4 +1,4 @@
--- The parts of market's `availabilityOf` (01, 'Before the rows'; 02, request 2), each of a record's state: tripped, and what 01 asks of
+-- The parts of market's `availability_of` (01, 'Before the rows'; 02, request 2), each of a record's state: tripped, and what 01 asks of
 -- each kind.
 use Rattle.std.specs.Prelude.{Bool, ◌&&◌, ◌||◌, leb, eqb, ℤ, pos, neg_ℤ}
 use Rattle.std.specs.Int.Signed.{le_z, lt_z}

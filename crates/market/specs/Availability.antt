@@ -14,7 +14,7 @@ has_tripped r = eqb r.kind 1 && leb r.trip 15
 abbrev pub closed : Resource → Bool
 closed r = eqb r.breaker 1
 
--- what 01 asks of each kind, its trip minutes left to `hasTripped`
+-- what 01 asks of each kind, its trip minutes left to `has_tripped`
 unfoldable pub running : Resource → Bool
 running r =
     (eqb r.kind 1 && (le_z (pos 500) r.output || le_z r.output (neg_ℤ (pos 500))) && closed r)

@@ -38,7 +38,7 @@ LeastOf vs v = Each (λ v'. v ≤ v') vs × OneOf vs v
 abbrev pub LargestOf : List ℤ → ℤ → Type 0
 LargestOf vs v = Each (λ v'. v' ≤ℤ v) vs × OneOf vs v
 
--- ---- on_line, off-line, tripped
+-- ---- on-line, off-line, tripped
 abbrev pub Closed : Resource → Type 0
 Closed r = r.breaker ≡ 1
 
@@ -69,7 +69,7 @@ pub record OffLineInWords (r : Resource) : Type 0 where
   pub intermittent : r.kind ≡ 2 → OffLine r ↔ ¬ (BitSet 1 r.status × Closed r × (pos 0 <ℤ r.output))
   pub external : r.kind ≡ 3 → OffLine r ↔ ¬ (BitSet 2 r.status × Closed r × BitSet 4 r.status)
 
--- where two suffice: on_line, or one of the others
+-- where two suffice: on-line, or one of the others
 abbrev pub NotOnLine : Resource → Type 0
 NotOnLine r = OffLine r ⊎ Tripped r
 
@@ -83,7 +83,7 @@ abbrev pub ramped_down : Resource → ℤ
 ramped_down r = pos r.initial -ℤ pos (5 * r.ramp_down)
 
 pub record LimitsInWords (r : Resource) : Type 0 where
-  -- on_line: the emergency limit if released, else the regulating one if flag 1, else the economic
+  -- on-line: the emergency limit if released, else the regulating one if flag 1, else the economic
   pub max_emergency : OnLine r → BitSet 16 r.flags → max_of r ≡ r.emergency_max
   pub max_regulating : OnLine r → BitClear 16 r.flags → BitSet 1 r.flags → max_of r ≡ r.regulating_max
   pub max_economic : OnLine r → BitClear 16 r.flags → BitClear 1 r.flags → max_of r ≡ r.economic_max
@@ -109,7 +109,7 @@ abbrev pub LeastOnLine : Case → Reserve → Resource → ℕ → Type 0
 LeastOnLine c reserve r = LeastOf (ramp_of c reserve r ∷ share_of c reserve ∷ max_of r ∷ [])
 
 pub record BoundsInWords (c : Case) (r : Resource) : Type 0 where
-  -- on_line: e, the sum of its step widths; g, c, s the least of three, or 0 where the flag is clear; o 0
+  -- on-line: e, the sum of its step widths; g, c, s the least of three, or 0 where the flag is clear; o 0
   pub e_on_line : OnLine r → service_bound c r energy ≡ width_of r.step_width 10
   pub g_flagged : OnLine r → BitSet 1 r.flags → LeastOnLine c regulating_reserve r (service_bound c r regulation)
   pub g_clear : OnLine r → BitClear 1 r.flags → service_bound c r regulation ≡ 0
@@ -128,7 +128,7 @@ pub record BoundsInWords (c : Case) (r : Resource) : Type 0 where
   -- tripped: all 0
   pub tripped : Tripped r → (s : Service) → service_bound c r s ≡ 0
 
--- ---- spin is c of an on_line resource with flag 2
+-- ---- spin is c of an on-line resource with flag 2
 pub record SpinInWords (r : Resource) : Type 0 where
   pub spin_flagged : OnLine r → BitSet 2 r.flags → spins r ≡ pos 1
   pub spin_clear : OnLine r → BitClear 2 r.flags → spins r ≡ pos 0

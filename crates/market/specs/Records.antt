@@ -119,7 +119,7 @@ unfoldable pub reserve_offers_of : Resource → ReserveOffers
 reserve_offers_of r =
     record { regulating = price r.regulating_price; contingency = price r.contingency_price; off_line_short_term = price r.off_line_short_term_price }
 
--- a resource's record; its energy steps are `offerStepsOf`
+-- a resource's record; its energy steps are `offer_steps_of`
 unfoldable pub record_of : Resource → D.Resource
 record_of r =
     record { state = state_of r; limits = output_limits_of r; ramps = ramps_of r; other_powers = other_powers_of r; offers = reserve_offers_of r }
@@ -185,7 +185,7 @@ curve_amounts_of figure =
 unfoldable pub cleared_of : Schedule → CurveAmounts
 cleared_of x = curve_amounts_of (λ k. pos (x (cleared_quantity k)))
 
--- of the rows that `row_of` names for each curve: Market, or Zone z
+-- of the rows that `row_of` names for each curve: market_row, or zone_row z
 unfoldable pub reserve_prices_of : Prices → (Curve → Row) → ReservePrices
 reserve_prices_of y row_of =
     record {
