@@ -35,16 +35,16 @@ loop-g-preserved c =
     let rest = drop c.args.r c.write_balance.new.out in
     let priced : c.flowgate_price_at-price.result.0 ≡ y (flowgate_row l.g) = rw c.flowgate_price_at-price.ensures in
     elim c.if-price-ne0.branch [
-    then-price-ne0 w ↦ (
-      omega arith,
-      rw w.out-is (w.subtract_flowgate.auto.out ∙ l.invariant.1),
-      w.out-is ∙ (rw priced at w.subtract_flowgate.ensures) ∙ one_taken cs y c.args.r l.g l.out rest l.invariant.2,
-    )
-    | else-price-ne0 w ↦ (
-      omega arith,
-      rw w.out-is l.invariant.1,
-      w.out-is ∙ l.invariant.2 ∙ ap (λ (p : List ℤ). p ++ rest) (none_taken cs y c.args.r l.g (sym priced ∙ zero_bits c.struct_told-1.given.0.1 w.if-price-ne0.false)),
-    )
+      | then-price-ne0 w ↦ (
+        omega arith,
+        rw w.out-is (w.subtract_flowgate.auto.out ∙ l.invariant.1),
+        w.out-is ∙ (rw priced at w.subtract_flowgate.ensures) ∙ one_taken cs y c.args.r l.g l.out rest l.invariant.2,
+      )
+      | else-price-ne0 w ↦ (
+        omega arith,
+        rw w.out-is l.invariant.1,
+        w.out-is ∙ l.invariant.2 ∙ ap (λ (p : List ℤ). p ++ rest) (none_taken cs y c.args.r l.g (sym priced ∙ zero_bits c.struct_told-1.given.0.1 w.if-price-ne0.false)),
+      )
     ]
 
 pub returns : goal.returns

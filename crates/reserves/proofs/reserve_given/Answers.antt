@@ -28,5 +28,5 @@ unfolding zoned_amounts_of record_of state_of
 returns c =
     let resource = c.resource_at-resource.ensures in
     let amounts : c.given-amounts.result ≡ curve_amounts_of (λ k. reserve_of (case_of c.args.b.now) (certificate_of c.args.q.now).amount k c.args.i) =
-      c.given-amounts.ensures ∙ rw (spin-is (goal.at.returns c).After-spinning-spin, c.amounts_at-a.ensures) (given_is (case_of c.args.b.now) (certificate_of c.args.q.now).amount c.args.i) in
+    c.given-amounts.ensures ∙ rw (spin-is (goal.at.returns c).After-spinning-spin, c.amounts_at-a.ensures) (given_is (case_of c.args.b.now) (certificate_of c.args.q.now).amount c.args.i) in
     λ j. record { zone = (resource j).state.zone; amounts = amounts j }
