@@ -7,7 +7,7 @@ use native.Mathlib.Omega.{arith}
 use lib.IntN.{ℤ, pos, neg_ℤ, nat_abs, ◌+ℤ◌, ◌-ℤ◌, ◌*ℤ◌, +ℤ_idl, +ℤ_idr, *ℤ-zero}
 use Rattle.arith.specs.Sums.{sum_of, upto}
 use Rattle.arith.proofs.Linear.{sorted, count}
-use Rattle.arith.proofs.Magnitudes.{abs_neg, abs-sub, abs-mul}
+use Rattle.arith.proofs.Magnitudes.{abs-sub, abs-mul}
 use Rattle.arith.proofs.Sums.{sum-ext, sum-zero}
 use Rattle.market.specs.Case.{Case, Curve, curves, operating, regulating_plus_spinning, regulating, short_term}
 use Rattle.market.specs.CaseFile.{case_of}
@@ -18,7 +18,6 @@ use Rattle.market.specs.Sizes.{most_flowgate_limit}
 use Rattle.market.specs.Records.{millicents, power, reserve_prices_of, limit_prices_of, zone_requirements_of}
 use Rattle.market.proofs.TakenByRows.{rows_sum}
 use Rattle.market.proofs.Ranges.{CaseRanges}
-use Rattle.market.proofs.RowSizes.{right_size}
 use Rattle.case_records.proofs.Places.{resources_is, zones_is, flowgates_is}
 use Rattle.limits.specs.Together.{limits_of}
 use Rattle.prices.specs.Standing.{PricesStand}

@@ -1,12 +1,12 @@
 -- The numbers that are kept, one by one.
 use mathlib.Core.Path.{◌≡◌, refl, sym, ap, ◌∙◌}
-use mathlib.Core.Bool.{Bool, true, false, cond}
+use mathlib.Core.Bool.{Bool, true, false}
 use mathlib.Core.List.{List, ◌++◌}
 use Prim.Native.Nat.{ℕ, ◌+◌, ◌*◌, ◌<◌, ◌≤◌}
 use native.Mathlib.Omega.{arith}
 use lib.Dec.{eqb}
 use lib.IntN.{ℤ, pos, nat_abs}
-use lib.ListN.{length, take, drop, get_or, length-append}
+use lib.ListN.{length, drop, get_or, length-append}
 use lib.Seq.{get_or-take, get_or-drop}
 use mir.Syntax.{w32}
 use mir.Val.{of_z, SFits}

@@ -1,5 +1,4 @@
 -- The capability of a resource of a case whose figures are in range is small.
-use mathlib.Core.Path.{◌≡◌}
 use Prim.Native.Nat.{ℕ, ◌<◌}
 use native.Mathlib.Omega.{arith}
 use lib.IntN.{pos}

@@ -1,5 +1,5 @@
 -- What is decided once of each resource, and the numbers as which it is kept (01, 'Before the rows').
-use Rattle.std.specs.Prelude.{◌≡◌, Bool, cond, List, [], ◌∷◌, ℕ, ◌+◌, ◌*◌, ◌<◌, ◌≤◌, ℤ, pos, length, take, drop}
+use Rattle.std.specs.Prelude.{◌≡◌, Bool, cond, List, [], ◌∷◌, ℕ, ◌*◌, ◌<◌, ◌≤◌, ℤ, pos, length, take, drop}
 use Rattle.market.specs.Case.{Case, Resource}
 use Rattle.market.specs.CaseCheck.{most_resources}
 use Rattle.market.specs.Availability.{on_line}

@@ -1,5 +1,5 @@
 -- How large the figures of a capability are.
-use Rattle.std.specs.Prelude.{ℕ, ◌≤◌, nat_abs}
+use Rattle.std.specs.Prelude.{◌≤◌, nat_abs}
 use Rattle.market.specs.Rows.{max_with_reserve, minimum, high, low}
 use Rattle.market.specs.Sizes.{most_power, most_limit}
 use Rattle.limits.specs.declared.ReserveBounds.{ReserveBounds}

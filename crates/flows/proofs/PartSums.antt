@@ -18,7 +18,7 @@ use Rattle.market.specs.UpperBounds.{energy}
 use Rattle.prices.specs.Standing.{Standing}
 use Rattle.prices.proofs.Known.{factor_size_lem, amount_small}
 use Rattle.flows.specs.Parts.{range32, energy_of, most_energy, high_unit, most_part, high_of, low_of}
-use Rattle.flows.proofs.Fit.{high_small, low_small, read_32}
+use Rattle.flows.proofs.Fit.{read_32}
 
 -- over flowgate g, from one part of the energy of each of the first n resources
 abbrev pub flow_from : (ℕ → ℤ) → List ℕ → List ℕ → ℕ → ℕ → ℤ

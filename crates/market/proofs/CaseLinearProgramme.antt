@@ -15,7 +15,7 @@ use Rattle.arith.proofs.Sums.{sum-ext, sum-scale}
 use Rattle.arith.proofs.Lists.{each_imp, each-any, each_join, each_map, each-across, each_and}
 use Rattle.market.specs.Case.{Case, Curve, curves, energy_steps, curve_steps}
 use Rattle.market.specs.Availability.{on_line}
-use Rattle.market.specs.UpperBounds.{Service, energy, reserve_services, cleared_quantity, provided_quantity, Schedule, service_bound, upper_bound}
+use Rattle.market.specs.UpperBounds.{Service, energy, reserve_services, cleared_quantity, provided_quantity, Schedule, service_bound}
 use Rattle.market.specs.Rows.{Row, rows, Sense, equal, at_least, sense, coefficient, right_side, left_side, slack, Meets, Bounded, Met}
 use Rattle.market.specs.Certificate.{Prices}
 use Rattle.market.specs.Cost.{Priced, priced_energy_step, priced_whole, priced_curve_step, priced_of, curve_priced, priced, quantity_of, offer, priced_upper_bound, part, cost}

@@ -1,5 +1,4 @@
 -- What the tests of refusals 3, 5, 6, 7 and 12 hold of.
-use mathlib.Core.Path.{◌≡◌}
 use Prim.Native.Nat.{ℕ, ◌≤◌, ◌<◌}
 use lib.IntN.{pos}
 use Rattle.market.specs.Case.{Case, Resource, Reserve}

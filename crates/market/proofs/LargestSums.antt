@@ -1,6 +1,6 @@
 -- The figures of sums are those computed over the largest case; and figures that hold of each row or quantity.
 use mathlib.Core.Path.{◌≡◌, refl}
-use Prim.Native.Nat.{ℕ, ◌+◌, ◌*◌, ◌≤◌}
+use Prim.Native.Nat.{◌+◌, ◌*◌, ◌≤◌}
 use native.Mathlib.Omega.{arith}
 use Rattle.arith.specs.Sums.{total_of, upto, across}
 use Rattle.market.specs.Case.{Case}

@@ -1,9 +1,8 @@
 -- The wrong turns of 01, and that the promise is not an empty one: K's.
-use mathlib.Core.Path.{◌≡◌, ◌∙◌}
-use Prim.Native.Nat.{ℕ, suc, ◌+◌, ◌*◌, ◌/◌, ◌%◌, ◌<◌, ◌≤◌}
+use Prim.Native.Nat.{ℕ, suc, ◌*◌, ◌/◌, ◌<◌, ◌≤◌}
 use native.Mathlib.Nat.{div-add-mod', mod-lt}
 use native.Mathlib.Omega.{arith}
-use lib.IntN.{pos, ◌*ℤ◌, ◌-ℤ◌, +ℤ_idr}
+use lib.IntN.{pos, +ℤ_idr}
 use Rattle.arith.specs.Sums.{sum_of, upto}
 use Rattle.market.specs.Limits.{max_of, min_of}
 use Rattle.market.specs.UpperBounds.{ramp_of, share_of}

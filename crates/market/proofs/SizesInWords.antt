@@ -1,5 +1,5 @@
 -- The sizes of files and lists have the paper's figures.
-use mathlib.Core.Path.{◌≡◌, refl}
+use mathlib.Core.Path.{refl}
 use native.Mathlib.Omega.{arith}
 use Rattle.market.specs.SizesInWords.{SizesInWords}
 

@@ -6,7 +6,6 @@ use native.Mathlib.Decide.{dec_lt}
 use native.Mathlib.Numerals.{add-one}
 use native.Mathlib.Omega.{arith}
 use lib.IntN.{ℤ, pos}
-use lib.Signed.{◌≤ℤ◌}
 use Rattle.arith.proofs.Order.{≤ℤ-trans}
 use Rattle.market.specs.Case.{Case, Resource, Curve, width_of}
 use Rattle.market.specs.CaseCheck.{steps_follow, steps_right, never_falls, never_rises, energy_steps_right, steps_rule}

@@ -1,6 +1,6 @@
 -- A test and the statement that it decides, put together from smaller ones as the test is.
 use mathlib.Core.Bool.{Bool, true, false, ◌&&◌, ◌||◌}
-use mathlib.Core.List.{List, []}
+use mathlib.Core.List.{List}
 use mathlib.Core.Logic.{◌↔◌, ◌⊎◌, inl, inr}
 use mathlib.Core.Path.{◌≡◌, refl, subst, sym}
 use Prim.Native.Nat.{ℕ, ◌≤◌, ◌<◌}

@@ -1,5 +1,5 @@
 -- Files as lists of numbers: every field but length and version, in order (01, 'How each operation refuses').
-use Rattle.std.specs.Prelude.{Bool, true, false, ◌&&◌, List, [], ◌∷◌, ◌++◌, ℕ, suc, ◌+◌, ◌*◌, ◌-◌, ◌/◌, ◌%◌, length, get_or, replicate, leb, eqb, ℤ, pos, negsuc, neg_ℤ, nat_abs}
+use Rattle.std.specs.Prelude.{Bool, true, false, ◌&&◌, List, [], ◌∷◌, ◌++◌, ℕ, suc, ◌+◌, ◌-◌, ◌/◌, ◌%◌, length, get_or, replicate, leb, eqb, ℤ, pos, negsuc, neg_ℤ, nat_abs}
 use Rattle.arith.specs.Sums.{total_of, upto, across}
 use Rattle.market.specs.declared.Refusal.TheVariants.{Counts, FieldRange, StepRule, LimitPair, CertificateLength, CertificateVersion, CertificateSize, NumberList}
 use Rattle.market.specs.declared.Transfer.{Transfer}

@@ -1,5 +1,5 @@
 -- The wrong turns that 01 names ('Worked interval'), each shut out by a law.
-use Rattle.std.specs.Prelude.{◌≡◌, true, false, ℕ, suc, ◌+◌, ◌*◌, ◌<◌, ◌≤◌, ℤ, pos, ◌*ℤ◌, ◌-ℤ◌}
+use Rattle.std.specs.Prelude.{◌≡◌, true, false, ℕ, suc, ◌*◌, ◌<◌, ◌≤◌, pos, ◌*ℤ◌, ◌-ℤ◌}
 use Rattle.market.specs.Bits.{emergency_maximum_flag, emergency_minimum_flag}
 use Rattle.market.specs.Case.{Case, Resource, Reserve, regulating_plus_spinning}
 use Rattle.market.specs.Availability.{on_line}

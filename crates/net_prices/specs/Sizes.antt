@@ -1,6 +1,6 @@
 -- How large prices are from which net prices are made, and net prices, so that sums of them fit. The figures are those of
 -- `market/specs/Sizes.antt`; here they are said of the records that the code reads and makes.
-use Rattle.std.specs.Prelude.{◌≡◌, ℕ, ◌+◌, ◌*◌, ◌<◌, ◌≤◌, ℤ, nat_abs}
+use Rattle.std.specs.Prelude.{◌≡◌, ℕ, ◌+◌, ◌<◌, ◌≤◌, ℤ, nat_abs}
 use Rattle.market.specs.declared.Millicents.{Millicents}
 use Rattle.market.specs.declared.Cents.{Cents}
 use Rattle.market.specs.declared.LimitPrices.{LimitPrices}

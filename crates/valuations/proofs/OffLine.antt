@@ -1,13 +1,12 @@
 -- A resource that is not on-line: its energy is 0, its steps are worth nothing, and the least that they add is 0.
-use mathlib.Core.Path.{◌≡◌, refl, sym, ap, ◌∙◌}
+use mathlib.Core.Path.{◌≡◌, sym, ap, ◌∙◌}
 use mathlib.Core.Bool.{false}
 use mathlib.Core.List.{List}
-use Prim.Native.Nat.{ℕ, ◌-◌, ◌<◌, ◌≤◌, min}
+use Prim.Native.Nat.{ℕ, ◌<◌, ◌≤◌}
 use native.Mathlib.Omega.{arith}
-use lib.IntN.{ℤ, pos, nat_abs, ◌+ℤ◌, ◌*ℤ◌, *ℤ-zero}
+use lib.IntN.{pos, ◌+ℤ◌, ◌*ℤ◌, *ℤ-zero}
 use Rattle.arith.specs.Sums.{min_ℤ, sum_of, upto}
 use Rattle.arith.proofs.Sums.{sum-ext, sum-zero}
-use Rattle.market.specs.Case.{Case, width_of}
 use Rattle.market.specs.CaseFile.{case_of}
 use Rattle.market.specs.Availability.{on_line}
 use Rattle.market.specs.UpperBounds.{provided_quantity, energy, upper_bound}

@@ -1,5 +1,5 @@
 -- A number of a signed width as bits: itself, or below 0 itself plus the range.
-use Rattle.std.proofs.Common.{◌≡◌, ℕ, suc, ◌+◌, ◌-◌, ◌<◌, ◌≤◌, true, false, T, ℤ, pos, negsuc, ◌+ℤ◌, sym, refl, ◌∙◌, subst, arith, le→leb}
+use Rattle.std.proofs.Common.{◌≡◌, ℕ, suc, ◌+◌, ◌<◌, ◌≤◌, true, false, T, ℤ, pos, negsuc, ◌+ℤ◌, sym, refl, ◌∙◌, subst, arith, le→leb}
 use lib.IntN.{+ℤ_comm}
 use lib.Signed.{le_z}
 use Rattle.arith.proofs.Order.{zl, pos-sub}

@@ -1,5 +1,5 @@
 -- Stores one behind the other: what stands in the slice after each, whatever the number of bytes.
-use Rattle.std.proofs.Common.{◌≡◌, ℕ, suc, ◌+◌, ◌<◌, ◌≤◌, List, [], ◌∷◌, ◌++◌, length, get_or, take, drop, set, ◌∙◌, append_assoc, add-one, arith, length-append, length-take-le, drop-cons}
+use Rattle.std.proofs.Common.{◌≡◌, ℕ, suc, ◌+◌, ◌<◌, List, [], ◌∷◌, ◌++◌, length, get_or, take, drop, set, ◌∙◌, append_assoc, add-one, arith, length-append, length-take-le, drop-cons}
 use lib.Seq.{set_split, set-append_seam}
 use Rattle.wire.specs.Within.{written}
 

@@ -1,4 +1,3 @@
-use Prim.Native.Nat.{◌-◌}
 use native.Mathlib.Omega.{arith}
 use Rattle.bounds.proofs.Figures.{none_summed, one_summed}
 use Rattle.bounds.proofs.curve_least.Goals as goal

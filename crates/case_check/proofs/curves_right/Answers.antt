@@ -1,4 +1,4 @@
-use Rattle.std.proofs.Common.{◌≡◌, ◌-◌, sym, ◌∙◌, arith, rules}
+use Rattle.std.proofs.Common.{◌≡◌, sym, ◌∙◌, arith, rules}
 use Rattle.arith.proofs.AllTests.{all_none, all_more, all_stop}
 use Rattle.market.specs.Case.{curve_numbered}
 use Rattle.market.specs.CaseFile.{case_of}

@@ -1,4 +1,4 @@
-use Rattle.std.proofs.Common.{◌-◌, sym, ◌∙◌, inl, inr, arith, rules}
+use Rattle.std.proofs.Common.{sym, ◌∙◌, inl, inr, arith, rules}
 use Rattle.arith.proofs.AllTests.{all_none, all_next}
 use Rattle.market.specs.CaseFile.{resource_at}
 use Rattle.case_check.specs.Pieces.{offer_follows}

@@ -1,4 +1,4 @@
-use Rattle.std.proofs.Common.{◌≡◌, ◌-◌, sym, ◌∙◌, arith, rules}
+use Rattle.std.proofs.Common.{◌≡◌, sym, ◌∙◌, arith, rules}
 use Rattle.market.specs.CaseFile.{resource_at}
 use Rattle.case_soundness.proofs.Steps.{width_none, width_more}
 use Rattle.case_check.proofs.offer_width.Goals as goal

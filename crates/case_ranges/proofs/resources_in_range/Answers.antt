@@ -1,5 +1,5 @@
 use mathlib.Core.Path.{sym, ◌∙◌}
-use Prim.Native.Nat.{◌+◌, ◌-◌}
+use Prim.Native.Nat.{◌+◌}
 use native.Mathlib.Omega.{arith}
 use Rattle.arith.proofs.AllTests.{all_none, all_more, all_stop}
 use Rattle.market.specs.CaseFile.{case_of}

@@ -1,4 +1,4 @@
-use Rattle.std.proofs.Common.{◌≡◌, ◌-◌, sym, refl, ◌∙◌, arith, rules, below_none}
+use Rattle.std.proofs.Common.{◌≡◌, sym, refl, ◌∙◌, arith, rules, below_none}
 use Rattle.case_soundness.specs.Ranks.{moved_of}
 use Rattle.case_soundness.proofs.Parts.{widths_at, prices_at, offer_sound}
 use Rattle.case_soundness.proofs.Ranks.{rank_at, rank_next, rising_next}

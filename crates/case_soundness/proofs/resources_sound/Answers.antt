@@ -1,4 +1,4 @@
-use Rattle.std.proofs.Common.{◌+◌, ◌-◌, arith, below_more}
+use Rattle.std.proofs.Common.{◌+◌, arith, below_more}
 use borrow.Author.Tests.{not-false}
 use Rattle.case_ranges.proofs.Places.{resource_is}
 use Rattle.case_soundness.proofs.resources_sound.Goals as goal

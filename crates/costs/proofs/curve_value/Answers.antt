@@ -1,4 +1,3 @@
-use Prim.Native.Nat.{◌-◌}
 use native.Mathlib.Omega.{arith}
 use lib.IntN.{nat_abs}
 use Rattle.case_records.specs.Ranged.{curve_step}

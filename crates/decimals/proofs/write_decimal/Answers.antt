@@ -1,5 +1,4 @@
 use mathlib.Core.List.{[], ◌∷◌}
-use Prim.Native.Nat.{◌-◌}
 use native.Mathlib.Omega.{arith}
 use lib.IntN.{nat_abs}
 use lib.ListN.{set}

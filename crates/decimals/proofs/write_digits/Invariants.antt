@@ -1,6 +1,6 @@
 use mathlib.Core.List.{◌++◌}
 use mathlib.Core.Path.{◌≡◌}
-use Prim.Native.Nat.{◌+◌, ◌-◌, ◌≤◌}
+use Prim.Native.Nat.{◌≤◌}
 use lib.ListN.{length, drop}
 use Rattle.decimals.specs.Digits.{last_digits}
 use Rattle.decimals.proofs.write_digits.Given as goal

@@ -1,12 +1,9 @@
-use mathlib.Core.Path.{◌≡◌, ◌∙◌}
+use mathlib.Core.Path.{◌≡◌}
 use native.Mathlib.Omega.{arith}
-use lib.IntN.{ℤ, nat_abs}
-use Prim.Native.Nat.{◌≤◌}
 use mir.Syntax.{w32, w64}
 use mir.Val.{SFits, to_z, of_z}
 use borrow.Author.Rules.{rules}
 use mir.Facts.{to_z-of_z}
-use Rattle.arith.proofs.Machine.{read_back}
 use Rattle.arith.proofs.Magnitudes.{fits-abs}
 use Rattle.market.specs.CaseFile.{case_of}
 use Rattle.prices.proofs.Known.{factor_size_lem}

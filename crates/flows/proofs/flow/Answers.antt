@@ -1,8 +1,5 @@
 use mathlib.Core.Path.{ap, ◌∙◌}
-use Prim.Native.Nat.{◌-◌}
 use native.Mathlib.Omega.{arith}
-use mir.Syntax.{w32}
-use mir.Val.{of_z}
 use borrow.Author.Rules.{rules}
 use Rattle.arith.specs.Sums.{sum_of, upto}
 use Rattle.market.specs.Records.{watts}

@@ -1,4 +1,3 @@
-use Prim.Native.Nat.{◌-◌}
 use native.Mathlib.Omega.{arith}
 use Rattle.market.specs.UpperBounds.{upper_bound}
 use Rattle.case_records.specs.Ranged.{curve_step}

@@ -1,4 +1,3 @@
-use Prim.Native.Nat.{◌-◌}
 use native.Mathlib.Omega.{arith}
 use Rattle.case_records.specs.Ranged.{offer_step}
 use Rattle.limits.proofs.Widths.{no_width_yet, widths_room, one_width_more, all_widths, offer_width_is}

@@ -1,6 +1,6 @@
 use mathlib.Core.List.{◌++◌}
 use mathlib.Core.Path.{◌≡◌}
-use Prim.Native.Nat.{◌+◌, ◌*◌, ◌-◌, ◌≤◌}
+use Prim.Native.Nat.{◌*◌, ◌-◌, ◌≤◌}
 use lib.ListN.{length, drop}
 use Rattle.arith.specs.Sums.{upto, across}
 use Rattle.market.specs.Prices.{zone_prices, zone_price_count}

@@ -1,5 +1,5 @@
 use mathlib.Core.Path.{◌≡◌, refl}
-use Prim.Native.Nat.{◌-◌, ◌<◌}
+use Prim.Native.Nat.{◌<◌}
 use native.Mathlib.Omega.{arith}
 use Rattle.market.specs.declared.Refusal.TheVariants.{AboveBound}
 use Rattle.market.specs.CaseFile.{case_of}

@@ -1,8 +1,6 @@
 use Rattle.market.specs.Records.{amounts_of}
 use Rattle.market.specs.UpperBounds.{upper_bound}
 use Rattle.limits.specs.Together.{reserve_bounds_of}
-use Rattle.quantities.proofs.service_bounds.Reads as reads
-use Rattle.quantities.proofs.service_bounds.Lts as lts
 use Rattle.quantities.proofs.service_bounds.Goals as goal
 
 pub returns : goal.returns

@@ -1,5 +1,4 @@
 use mathlib.Core.Path.{◌≡◌, ap, ◌∙◌}
-use Prim.Native.Nat.{◌-◌}
 use native.Mathlib.Omega.{arith}
 use Rattle.arith.specs.Sums.{sum_of, upto}
 use Rattle.market.specs.CaseFile.{case_of}

@@ -1,12 +1,9 @@
-use Prim.Native.Nat.{◌-◌}
 use native.Mathlib.Omega.{arith}
 use lib.IntN.{nat_abs}
-use Rattle.market.specs.UpperBounds.{energy}
 use Rattle.case_records.specs.Ranged.{offer_step}
 use Rattle.costs.specs.Steps.{StepRanges}
 use Rattle.costs.proofs.Filling.{offer_ranges}
 use Rattle.costs.proofs.FillingLoop.{none_filled, part_room, worth_room, one_filled}
-use Rattle.bounds.specs.Terms.{step_least}
 use Rattle.bounds.proofs.Figures.{none_summed, one_summed}
 use Rattle.bounds.proofs.PricedSizes.{widths_next, widths_room}
 use Rattle.valuations.proofs.steps_value.Goals as goal
