@@ -22,20 +22,20 @@ pub from_zero : (most n : ℕ) → leb n most ≡ within 0 most n
 from_zero most n = rw (leb-zero n)
 
 -- a status, by what the constructor answers
-abbrev has_bits_lem : StatusRead → Bool
-has_bits_lem (Bits s) = true
-has_bits_lem OutOfRange = false
+abbrev has_bits : StatusRead → Bool
+has_bits (Bits s) = true
+has_bits OutOfRange = false
 
-has_bits : (n : ℕ) → within 0 15 n ≡ has_bits_lem (status_of n)
-has_bits n = sym (from_zero 15 n) ∙ go (leb n 15)
+has_bits_lem : (n : ℕ) → within 0 15 n ≡ has_bits (status_of n)
+has_bits_lem n = sym (from_zero 15 n) ∙ go (leb n 15)
   where
-    go : (t : Bool) → t ≡ has_bits_lem (status_if t n)
+    go : (t : Bool) → t ≡ has_bits (status_if t n)
     go true = refl
     go false = refl
 
 module _ {x : StatusRead} (n : ℕ) (read : x ≡ status_of n) where
   pub status_in : {s : Status} → x ≡ Bits s → within 0 15 n ≡ true
-  status_in h = has_bits n ∙ ap has_bits_lem (sym read ∙ h)
+  status_in h = has_bits_lem n ∙ ap has_bits (sym read ∙ h)
 
   pub status_out : x ≡ OutOfRange → within 0 15 n ≡ false
-  status_out h = has_bits n ∙ ap has_bits_lem (sym read ∙ h)
+  status_out h = has_bits_lem n ∙ ap has_bits (sym read ∙ h)

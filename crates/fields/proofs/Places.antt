@@ -108,18 +108,18 @@ abbrev is_u32 : Field → Type 0
 is_u32 x = x ≡ u32
 
 module _ (r z f k : ℕ) where
-  abbrev certificate_rest_lem : List Field
-  certificate_rest_lem = times z curve_fields ++ (times f (u32 ∷ []) ++ times r entry_fields)
+  abbrev certificate_rest : List Field
+  certificate_rest = times z curve_fields ++ (times f (u32 ∷ []) ++ times r entry_fields)
 
-  rest_each : Each is_u32 certificate_rest_lem
+  rest_each : Each is_u32 certificate_rest
   rest_each =
       each_join is_u32 (times z curve_fields) (times f (u32 ∷ []) ++ times r entry_fields) (times_each is_u32 z curve_fields (same_each zone_numbers u32))
       (each_join is_u32 (times f (u32 ∷ [])) (times r entry_fields) (times_each is_u32 f (u32 ∷ []) (refl, tt)) (times_each is_u32 r entry_fields (same_each entry_numbers u32)))
 
   pub certificate_head : k < certificate_head_numbers → get_or (certificate_fields r z f) k u8 ≡ get_or certificate_head_fields k u8
   unfolding certificate_fields
-  certificate_head h = entry_first u8 certificate_head_fields certificate_rest_lem k h
+  certificate_head h = entry_first u8 certificate_head_fields certificate_rest k h
 
-  pub certificate_rest : certificate_head_numbers ≤ k → k < length (certificate_fields r z f) → get_or (certificate_fields r z f) k u8 ≡ u32
+  pub certificate_rest_lem : certificate_head_numbers ≤ k → k < length (certificate_fields r z f) → get_or (certificate_fields r z f) k u8 ≡ u32
   unfolding certificate_fields
-  certificate_rest h l = entry_later u8 certificate_head_fields certificate_rest_lem certificate_head_numbers k refl h ∙ entry_each u8 is_u32 certificate_rest_lem rest_each (k - certificate_head_numbers) (omega (arith, length-append certificate_head_fields certificate_rest_lem))
+  certificate_rest_lem h l = entry_later u8 certificate_head_fields certificate_rest certificate_head_numbers k refl h ∙ entry_each u8 is_u32 certificate_rest rest_each (k - certificate_head_numbers) (omega (arith, length-append certificate_head_fields certificate_rest))

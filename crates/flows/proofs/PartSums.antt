@@ -65,7 +65,7 @@ module _ {b q : List ℕ} {r z f : ℕ} (s : Standing b q r z f) (g : ℕ) (h : 
     part_read : to_z w16 (of_z w16 v) ≡ part (energy_of q i)
     part_read = rw part-is (to_z-of_z (fits-abs {w = w16} (omega (arith, small (energy_of q i) (amount_small s i energy k)))))
 
-    pub turn_room : nat_abs (so_far) + nat_abs (to_z w32 (of_z w32 c)) * nat_abs (to_z w16 (of_z w16 v)) < range32
+    pub turn_room : nat_abs so_far + nat_abs (to_z w32 (of_z w32 c)) * nat_abs (to_z w16 (of_z w16 v)) < range32
     turn_room = rw (sum_read, factor_read, part_read) (sum_room i k)
 
     one_more : so_far +ℤ to_z w32 (of_z w32 c) *ℤ to_z w16 (of_z w16 v) ≡ flow_from part b q g (i + 1)

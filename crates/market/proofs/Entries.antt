@@ -56,20 +56,20 @@ reserve_term r regulating_plus_spinning v = simp (units, if-*)
 reserve_term r regulating v = simp units
 reserve_term r short_term v = simp units
 
-abbrev pub limit_term_lem : Limit → (Service → ℤ) → ℤ
-limit_term_lem max_with_reserve v = neg_ℤ (v energy +ℤ v regulation +ℤ v contingency)
-limit_term_lem max_with_short_term v = neg_ℤ (v energy +ℤ v on_line_short_term)
-limit_term_lem minimum v = v energy -ℤ v regulation
-limit_term_lem high v = neg_ℤ (v energy)
-limit_term_lem low v = v energy
+abbrev pub limit_term : Limit → (Service → ℤ) → ℤ
+limit_term max_with_reserve v = neg_ℤ (v energy +ℤ v regulation +ℤ v contingency)
+limit_term max_with_short_term v = neg_ℤ (v energy +ℤ v on_line_short_term)
+limit_term minimum v = v energy -ℤ v regulation
+limit_term high v = neg_ℤ (v energy)
+limit_term low v = v energy
 
-pub limit_term : (l : Limit) (v : Service → ℤ) → sum_of (λ s. in_limit l s *ℤ v s) services ≡ limit_term_lem l v
+pub limit_term_lem : (l : Limit) (v : Service → ℤ) → sum_of (λ s. in_limit l s *ℤ v s) services ≡ limit_term l v
 unfolding sum_of entries in_limit
-limit_term max_with_reserve v = simp (units, neg_ℤ-+ℤ, +ℤ_assoc)
-limit_term max_with_short_term v = simp (units, neg_ℤ-+ℤ)
-limit_term minimum v = simp units
-limit_term high v = simp units
-limit_term low v = simp units
+limit_term_lem max_with_reserve v = simp (units, neg_ℤ-+ℤ, +ℤ_assoc)
+limit_term_lem max_with_short_term v = simp (units, neg_ℤ-+ℤ)
+limit_term_lem minimum v = simp units
+limit_term_lem high v = simp units
+limit_term_lem low v = simp units
 
 -- ---- over the cleared quantities: each stands in its own market row
 pub cleared_term : (v : Curve → ℤ) (k : Curve) → sum_of (λ l. cond (eqb (curve_number k) (curve_number l)) minus_one none *ℤ v l) curves ≡ neg_ℤ (v k)
@@ -87,35 +87,35 @@ cleared_price y regulating = simp units
 cleared_price y short_term = simp units
 
 -- ---- prices y of the four reserve rows, or of a resource's own five, on one service
-abbrev pub reserve_price_lem : Resource → (Curve → ℤ) → Service → ℤ
-reserve_price_lem r y energy = pos 0
-reserve_price_lem r y regulation = y operating +ℤ y regulating_plus_spinning +ℤ y regulating
-reserve_price_lem r y contingency = y operating +ℤ cond (is_spinning r) (y regulating_plus_spinning) (pos 0)
-reserve_price_lem r y on_line_short_term = y short_term
-reserve_price_lem r y off_line_short_term = y short_term
+abbrev pub reserve_price : Resource → (Curve → ℤ) → Service → ℤ
+reserve_price r y energy = pos 0
+reserve_price r y regulation = y operating +ℤ y regulating_plus_spinning +ℤ y regulating
+reserve_price r y contingency = y operating +ℤ cond (is_spinning r) (y regulating_plus_spinning) (pos 0)
+reserve_price r y on_line_short_term = y short_term
+reserve_price r y off_line_short_term = y short_term
 
-pub reserve_price : (r : Resource) (y : Curve → ℤ) (s : Service) → sum_of (λ k. y k *ℤ in_reserve r k s) curves ≡ reserve_price_lem r y s
+pub reserve_price_lem : (r : Resource) (y : Curve → ℤ) (s : Service) → sum_of (λ k. y k *ℤ in_reserve r k s) curves ≡ reserve_price r y s
 unfolding sum_of in_reserve entries spins
-reserve_price r y energy = simp units
-reserve_price r y regulation = simp (units, +ℤ_assoc)
-reserve_price r y contingency = simp (units, *-if)
-reserve_price r y on_line_short_term = simp units
-reserve_price r y off_line_short_term = simp units
+reserve_price_lem r y energy = simp units
+reserve_price_lem r y regulation = simp (units, +ℤ_assoc)
+reserve_price_lem r y contingency = simp (units, *-if)
+reserve_price_lem r y on_line_short_term = simp units
+reserve_price_lem r y off_line_short_term = simp units
 
-abbrev pub limit_price_lem : (Limit → ℤ) → Service → ℤ
-limit_price_lem y energy = y minimum +ℤ y low -ℤ (y max_with_reserve +ℤ y max_with_short_term +ℤ y high)
-limit_price_lem y regulation = neg_ℤ (y max_with_reserve +ℤ y minimum)
-limit_price_lem y contingency = neg_ℤ (y max_with_reserve)
-limit_price_lem y on_line_short_term = neg_ℤ (y max_with_short_term)
-limit_price_lem y off_line_short_term = pos 0
+abbrev pub limit_price : (Limit → ℤ) → Service → ℤ
+limit_price y energy = y minimum +ℤ y low -ℤ (y max_with_reserve +ℤ y max_with_short_term +ℤ y high)
+limit_price y regulation = neg_ℤ (y max_with_reserve +ℤ y minimum)
+limit_price y contingency = neg_ℤ (y max_with_reserve)
+limit_price y on_line_short_term = neg_ℤ (y max_with_short_term)
+limit_price y off_line_short_term = pos 0
 
-pub limit_price : (y : Limit → ℤ) (s : Service) → sum_of (λ l. y l *ℤ in_limit l s) limits ≡ limit_price_lem y s
+pub limit_price_lem : (y : Limit → ℤ) (s : Service) → sum_of (λ l. y l *ℤ in_limit l s) limits ≡ limit_price y s
 unfolding sum_of in_limit entries
-limit_price y energy = simp units (ring (y max_with_reserve) (y max_with_short_term) (y minimum) (y high) (y low))
+limit_price_lem y energy = simp units (ring (y max_with_reserve) (y max_with_short_term) (y minimum) (y high) (y low))
   where
     ring : (a b c d e : ℤ) → neg_ℤ a +ℤ (neg_ℤ b +ℤ (c +ℤ (neg_ℤ d +ℤ e))) ≡ c +ℤ e -ℤ (a +ℤ b +ℤ d)
     ring a b c d e = simp sorted (simp count (omega arith))
-limit_price y regulation = simp (units, neg_ℤ-+ℤ)
-limit_price y contingency = simp units
-limit_price y on_line_short_term = simp units
-limit_price y off_line_short_term = simp units
+limit_price_lem y regulation = simp (units, neg_ℤ-+ℤ)
+limit_price_lem y contingency = simp units
+limit_price_lem y on_line_short_term = simp units
+limit_price_lem y off_line_short_term = simp units

@@ -45,15 +45,15 @@ CountsFirst fs = fs ≡ u8 ∷ u8 ∷ u8 ∷ drop 3 fs
 
 -- of the counts that stand in a file
 module _ {A : Type 0} where
-  abbrev pub by_counts_lem : (ℕ → ℕ → ℕ → A) → List ℕ → A
-  by_counts_lem g b = g (u8_at b 5) (u8_at b 6) (u8_at b 7)
+  abbrev pub by_counts : (ℕ → ℕ → ℕ → A) → List ℕ → A
+  by_counts g b = g (u8_at b 5) (u8_at b 6) (u8_at b 7)
 
 -- they are the first three of its numbers
-pub fields_by_counts : (fields : FieldsOf) (fs : List Field) → CountsFirst fs → (b : List ℕ) → fields_for fields (numbers_at fs b 5) ≡ by_counts_lem fields b
+pub fields_by_counts : (fields : FieldsOf) (fs : List Field) → CountsFirst fs → (b : List ℕ) → fields_for fields (numbers_at fs b 5) ≡ by_counts fields b
 unfolding numbers_at field_at fields_for
 fields_by_counts fields fs e b = ap (λ (gs : List Field). fields_for fields (numbers_at gs b 5)) e
 
-pub range_of_counts : (fs : List Field) → CountsFirst fs → (b : List ℕ) → counts_in_range (numbers_at fs b 5) ≡ by_counts_lem counts_right b
+pub range_of_counts : (fs : List Field) → CountsFirst fs → (b : List ℕ) → counts_in_range (numbers_at fs b 5) ≡ by_counts counts_right b
 unfolding numbers_at field_at counts_in_range counts_right
 range_of_counts fs e b = ap (λ (gs : List Field). counts_in_range (numbers_at gs b 5)) e
 

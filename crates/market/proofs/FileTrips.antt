@@ -22,7 +22,7 @@ use Rattle.market.proofs.GroundTests.{Test, test, findings, AllPass, tests_pass,
 use Rattle.market.proofs.Passed.{list_passed, list_clear}
 use Rattle.market.proofs.Ranges.{counts_most}
 use Rattle.market.proofs.FieldLists.{numbers_fit_lem}
-use Rattle.market.proofs.FileContents.{CountsFirst, by_counts_lem, file_length, length_field, file_read, file_written, fields_by_counts, range_of_counts, three_numbers}
+use Rattle.market.proofs.FileContents.{CountsFirst, by_counts, file_length, length_field, file_read, file_written, fields_by_counts, range_of_counts, three_numbers}
 
 eq→eqb : {m n : ℕ} → m ≡ n → T (eqb m n)
 eq→eqb {m} {n} e = rw e (eqb_refl n)
@@ -48,8 +48,8 @@ module _ (K : FileKind) where
   file_tests b =
       test (length_right K.least b) K.wrong_length
       ∷ test (version_right b) K.wrong_version
-      ∷ test (by_counts_lem counts_right b) Counts
-      ∷ test (eqb (length b) (by_counts_lem K.size b)) K.wrong_size
+      ∷ test (by_counts counts_right b) Counts
+      ∷ test (eqb (length b) (by_counts K.size b)) K.wrong_size
       ∷ []
 
   -- the grounds of bytes to be read, and of numbers to be written, but for the lent buffer's length
@@ -63,14 +63,14 @@ module _ (K : FileKind) where
   pub record Right (b : List ℕ) : Type 0 where
     pub says : u32_at b 0 + 4 ≡ length b
     pub version : u8_at b 4 ≡ 1
-    pub counts : T (by_counts_lem counts_right b)
-    pub filled : length b ≡ 5 + total_of field_width (by_counts_lem K.fields b)
+    pub counts : T (by_counts counts_right b)
+    pub filled : length b ≡ 5 + total_of field_width (by_counts K.fields b)
 
   -- then, and only then, is the file refused on none of the first four grounds
   right_first : (b : List ℕ) → Right b → first_of (file_grounds b) ≡ first_of (K.further b)
   unfolding file_grounds length_right version_right
   right_first b h =
-      let filled : length b ≡ by_counts_lem K.size b = h.filled ∙ K.fills (u8_at b 5) (u8_at b 6) (u8_at b 7) in
+      let filled : length b ≡ by_counts K.size b = h.filled ∙ K.fills (u8_at b 5) (u8_at b 6) (u8_at b 7) in
       let long : K.least ≤ length b = omega (arith, K.at_least (u8_at b 5) (u8_at b 6) (u8_at b 7)) in
       let said = and_join (leb K.least (length b)) (eqb (u32_at b 0 + 4) (length b)) (le→leb K.least (length b) long) (eq→eqb h.says) in
       first_later (findings (file_tests b)) (K.further b) (all_clear (findings (file_tests b)) (tests_clear (file_tests b) (said, (eq→eqb h.version, (h.counts, (eq→eqb filled, tt))))))
@@ -89,7 +89,7 @@ module _ (K : FileKind) where
             says = eqb→eq (u32_at b 0 + 4) (length b) (and_split (leb K.least (length b)) (eqb (u32_at b 0 + 4) (length b)) long).1;
             version = eqb→eq (u8_at b 4) 1 version;
             counts = counts;
-            filled = eqb→eq (length b) (by_counts_lem K.size b) size ∙ sym (K.fills (u8_at b 5) (u8_at b 6) (u8_at b 7));
+            filled = eqb→eq (length b) (by_counts K.size b) size ∙ sym (K.fills (u8_at b 5) (u8_at b 6) (u8_at b 7));
           }
 
   -- numbers that a list may hold: their file is refused on none of the first four grounds and reads as them
@@ -103,9 +103,9 @@ module _ (K : FileKind) where
       let first : CountsFirst fs = K.counts_first (count_in vs 0) (count_in vs 1) (count_in vs 2) in
       let fits : T (numbers_fit fs vs) = listed.numbers_fit_lem in
       let read : numbers_at fs b 5 ≡ vs = file_read fs vs fits in
-      let same : fs ≡ by_counts_lem K.fields b = ap (fields_for K.fields) (sym read) ∙ fields_by_counts K.fields fs first b in
-      let counts : T (by_counts_lem counts_right b) = subst T (ap counts_in_range (sym read) ∙ range_of_counts fs first b) listed.counts_in_range in
-      let filled : length b ≡ 5 + total_of field_width (by_counts_lem K.fields b) = file_length fs vs fits ∙ ap (λ (gs : List Field). 5 + total_of field_width gs) same in
+      let same : fs ≡ by_counts K.fields b = ap (fields_for K.fields) (sym read) ∙ fields_by_counts K.fields fs first b in
+      let counts : T (by_counts counts_right b) = subst T (ap counts_in_range (sym read) ∙ range_of_counts fs first b) listed.counts_in_range in
+      let filled : length b ≡ 5 + total_of field_width (by_counts K.fields b) = file_length fs vs fits ∙ ap (λ (gs : List Field). 5 + total_of field_width gs) same in
       let small = counts_most (u8_at b 5) (u8_at b 6) (u8_at b 7) counts in
       let most = K.at_most (u8_at b 5) (u8_at b 6) (u8_at b 7) small.most_resources small.most_zones small.most_flowgates in
       let total : 1 + total_of field_width fs < 4294967296 = omega (arith, file_length fs vs fits, K.fills (u8_at b 5) (u8_at b 6) (u8_at b 7)) in
@@ -128,7 +128,7 @@ module _ (K : FileKind) where
       AllClear (number_grounds (numbers_of K.fields b)) × (file_for K.fields (numbers_of K.fields b) ≡ b)
   unfolding number_grounds file_for numbers_of
   valid_written b bytes h =
-      let fs = by_counts_lem K.fields b in
+      let fs = by_counts K.fields b in
       let vs = numbers_at fs b 5 in
       let first : CountsFirst fs = K.counts_first (u8_at b 5) (u8_at b 6) (u8_at b 7) in
       let right = clear_right b h in

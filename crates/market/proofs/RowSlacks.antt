@@ -16,7 +16,7 @@ use Rattle.market.specs.Limits.{max_of, hi_of}
 use Rattle.market.specs.UpperBounds.{energy, regulation, contingency, on_line_short_term, services, Quantity, cleared_quantity, provided_quantity, quantities, Schedule}
 use Rattle.market.specs.Rows.{Row, balance_row, market_row, zone_row, flowgate_row, limit_row, Limit, max_with_reserve, max_with_short_term, minimum, high, low, none, one, entries, in_reserve, in_limit, coefficient, right_side, left_side, slack}
 use Rattle.market.specs.InWords.{RowsInWords, kw_of, reserve_of, reserve_in_zone}
-use Rattle.market.proofs.Entries.{none-*, one-*, energy_term, reserve_term, limit_term_lem, limit_term, cleared_term}
+use Rattle.market.proofs.Entries.{none-*, one-*, energy_term, reserve_term, limit_term, limit_term_lem, cleared_term}
 use Rattle.market.proofs.TakenByRows.{same_number, only_number}
 
 -- a sum over the quantities, by curves and by resources
@@ -87,13 +87,13 @@ module _ (c : Case) (x : Schedule) where
       ring : (s l : ℤ) → (pos 0 +ℤ neg_ℤ s) -ℤ neg_ℤ l ≡ l -ℤ s
       ring s l = simp sorted (simp count (omega arith))
 
-  limited : (i : ℕ) (l : Limit) → i < c.resources → slack c x (limit_row i l) ≡ limit_term_lem l (kw_of x i) -ℤ right_side c (limit_row i l)
+  limited : (i : ℕ) (l : Limit) → i < c.resources → slack c x (limit_row i l) ≡ limit_term l (kw_of x i) -ℤ right_side c (limit_row i l)
   unfolding coefficient none
   limited i l h =
-      slack_by (limit_row i l) (λ j. cond (eqb j i) (limit_term_lem l (kw_of x j)) (pos 0)) (pos 0) none_cleared
-      (λ j. sum-cond-l (eqb j i) (in_limit l) (kw_of x j) services ∙ ap (λ (t : ℤ). cond (eqb j i) t (pos 0)) (limit_term l (kw_of x j)))
-      ∙ ap (λ (t : ℤ). (pos 0 +ℤ t) -ℤ right_side c (limit_row i l)) (sum_pick (λ j. eqb j i) (λ j. limit_term_lem l (kw_of x j)) i (same_number i) (λ j e. only_number j i e) c.resources h)
-      ∙ plain (limit_term_lem l (kw_of x i)) (right_side c (limit_row i l))
+      slack_by (limit_row i l) (λ j. cond (eqb j i) (limit_term l (kw_of x j)) (pos 0)) (pos 0) none_cleared
+      (λ j. sum-cond-l (eqb j i) (in_limit l) (kw_of x j) services ∙ ap (λ (t : ℤ). cond (eqb j i) t (pos 0)) (limit_term_lem l (kw_of x j)))
+      ∙ ap (λ (t : ℤ). (pos 0 +ℤ t) -ℤ right_side c (limit_row i l)) (sum_pick (λ j. eqb j i) (λ j. limit_term l (kw_of x j)) i (same_number i) (λ j e. only_number j i e) c.resources h)
+      ∙ plain (limit_term l (kw_of x i)) (right_side c (limit_row i l))
 
 -- from 'at least' form back to 'at most'
 turned : (a m : ℤ) → neg_ℤ a -ℤ neg_ℤ m ≡ m -ℤ a

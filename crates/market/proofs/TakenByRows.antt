@@ -15,7 +15,7 @@ use Rattle.market.specs.Rows.{Row, balance_row, market_row, zone_row, flowgate_r
 use Rattle.market.specs.Certificate.{Prices}
 use Rattle.market.specs.Bound.{row_value}
 use Rattle.market.specs.InWords.{Placed}
-use Rattle.market.proofs.Entries.{reserve_price_lem, reserve_price, limit_price_lem, limit_price}
+use Rattle.market.proofs.Entries.{reserve_price, reserve_price_lem, limit_price, limit_price_lem}
 
 -- a sum over the rows, by families
 pub rows_sum : (c : Case) (g : Row → ℤ) → sum_of g (rows c)
@@ -60,11 +60,11 @@ module _ (c : Case) (y : Prices) (i z : ℕ) (at : Placed c i z) where
     -- what the rows take from a resource's service: by the rows that can hold it
     pub taken : row_value c y (provided_quantity i s)
         ≡ y balance_row *ℤ entries one none none none none s
-        +ℤ (reserve_price_lem (c.resource i) (λ k. y (market_row k)) s
-        +ℤ (reserve_price_lem (c.resource i) (λ k. y (zone_row z k)) s
+        +ℤ (reserve_price (c.resource i) (λ k. y (market_row k)) s
+        +ℤ (reserve_price (c.resource i) (λ k. y (zone_row z k)) s
         +ℤ (sum_of (λ f. y (flowgate_row f) *ℤ neg_ℤ (entries (c.shift_factor f i) none none none none s)) (upto c.flowgates)
-        +ℤ limit_price_lem (λ l. y (limit_row i l)) s)))
+        +ℤ limit_price (λ l. y (limit_row i l)) s)))
     unfolding row_value coefficient
     taken =
         rows_sum c (λ r. y r *ℤ coefficient c r (provided_quantity i s))
-        ∙ rw (zone_sum, limit_sum, reserve_price (c.resource i) (λ k. y (market_row k)) s, reserve_price (c.resource i) (λ k. y (zone_row z k)) s, limit_price (λ l. y (limit_row i l)) s)
+        ∙ rw (zone_sum, limit_sum, reserve_price_lem (c.resource i) (λ k. y (market_row k)) s, reserve_price_lem (c.resource i) (λ k. y (zone_row z k)) s, limit_price_lem (λ l. y (limit_row i l)) s)

@@ -1,6 +1,5 @@
 -- The editions of the two files, one for each version, and the features that set them apart (02, requests 3, 7, 10 and 12). Version 1,
--- that of document 01, is the only one that is known. Only lists and places ask for the edition: the table of the rows is the same in
--- all of them.
+-- that of document 01, is the only one that is known. No other definition asks for the edition yet: places and lists are version 1's.
 use Rattle.std.specs.Prelude.{Bool, true, false, cond, List, ℕ, eqb}
 use Rattle.market.specs.Bytes.{u8_at}
 

@@ -46,8 +46,8 @@ module _ (c : Case) where
 
 -- for any test t of a row and any refusal r by its number
 module _ (t : Row → Bool) (r : ℕ → Refusal) (c : Case) where
-  abbrev balance_found_lem : Finding
-  balance_found_lem = first_failing t r 1 (balance_row ∷ [])
+  abbrev balance_found : Finding
+  balance_found = first_failing t r 1 (balance_row ∷ [])
 
   abbrev market_found : Finding
   market_found = first_failing t r 2 market_rows
@@ -58,12 +58,12 @@ module _ (t : Row → Bool) (r : ℕ → Refusal) (c : Case) where
   abbrev network_found : Finding
   network_found = first_failing t r (first_zone_row + c.zones * zone_row_count) (flowgate_rows c ++ limit_rows c)
 
-  rows_first : or_else balance_found_lem (or_else market_found (or_else zones_found network_found)) ≡ first_failing t r 1 (rows c)
+  rows_first : or_else balance_found (or_else market_found (or_else zones_found network_found)) ≡ first_failing t r 1 (rows c)
   unfolding rows
   rows_first =
       sym
       (first_append t r 1 (balance_row ∷ []) (market_rows ++ (zone_rows c ++ (flowgate_rows c ++ limit_rows c)))
-      ∙ ap (or_else balance_found_lem)
+      ∙ ap (or_else balance_found)
       (first_append t r 2 market_rows (zone_rows c ++ (flowgate_rows c ++ limit_rows c))
       ∙ ap (or_else market_found)
       (first_append t r first_zone_row (zone_rows c) (flowgate_rows c ++ limit_rows c) ∙ rw (zone_rows_long c))))
@@ -74,18 +74,18 @@ module _ (t : Row → Bool) (r : ℕ → Refusal) (c : Case) where
 
   -- row 1 is met: the market's rows, then the zones', then the others
   module _ (met : t balance_row ≡ true) where
-    balance_found : found_at r None ≡ balance_found_lem
-    balance_found = sym (passes t r 1 balance_row [] met ∙ first_none t r 2)
+    balance_found_lem : found_at r None ≡ balance_found
+    balance_found_lem = sym (passes t r 1 balance_row [] met ∙ first_none t r 2)
 
     pub market_broken : (m : First) (p : ℕ) → m ≡ At p → found_at r m ≡ market_found → found_at r m ≡ first_failing t r 1 (rows c)
-    market_broken m p a h = found_next r None m refl balance_found (found_here r m p (or_else zones_found network_found) a h) ∙ rows_first
+    market_broken m p a h = found_next r None m refl balance_found_lem (found_here r m p (or_else zones_found network_found) a h) ∙ rows_first
 
     module _ (m : First) (none : m ≡ None) (h : found_at r m ≡ market_found) where
       pub zone_broken : (n : First) (p : ℕ) → n ≡ At p → found_at r n ≡ zones_found → found_at r n ≡ first_failing t r 1 (rows c)
-      zone_broken n p a k = found_next r None n refl balance_found (found_next r m n none h (found_here r n p network_found a k)) ∙ rows_first
+      zone_broken n p a k = found_next r None n refl balance_found_lem (found_next r m n none h (found_here r n p network_found a k)) ∙ rows_first
 
       pub rest_broken : (n l : First) → n ≡ None → found_at r n ≡ zones_found → found_at r l ≡ network_found → found_at r l ≡ first_failing t r 1 (rows c)
-      rest_broken n l e k j = found_next r None l refl balance_found (found_next r m l none h (found_next r n l e k j)) ∙ rows_first
+      rest_broken n l e k j = found_next r None l refl balance_found_lem (found_next r m l none h (found_next r n l e k j)) ∙ rows_first
 
   -- the flowgates' rows, numbered from s, and then the resources'
   module _ (s : ℕ) where
