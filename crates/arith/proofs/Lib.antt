@@ -5,8 +5,10 @@ pub mod Magnitudes
 pub mod Sums
 pub mod NaturalSums
 pub mod LoopSums
+pub mod SumSteps
 pub mod Lists
 pub mod AllTests
+pub mod Ranges
 pub mod Picks
 pub mod Kept
 pub mod Duality
