@@ -1,4 +1,5 @@
 -- Demand 3: what an accepted certificate shows.
+use Rattle.std.specs.Prelude.{Ok}
 use mathlib.Core.Path.{◌≡◌, sym, ◌∙◌, ap}
 use mathlib.Core.List.{List, ◌++◌}
 use mathlib.Core.Logic.{◌↔◌}
@@ -13,8 +14,6 @@ use Rattle.arith.proofs.Lists.{each_imp, each_split}
 use Rattle.arith.proofs.AllTests.{all-each, and_split}
 use Rattle.arith.proofs.Duality as D
 use Rattle.market.specs.declared.Refusal.TheVariants.{RowBroken}
-use Rattle.market.specs.declared.Outcome.TheVariants.{Accepted}
-use Rattle.market.specs.declared.Delivery.TheVariants.{Delivered}
 use Rattle.market.specs.declared.Valuation.{Valuation}
 use Rattle.market.specs.Case.{Case}
 use Rattle.market.specs.CaseFile.{case_of}
@@ -24,12 +23,12 @@ use Rattle.market.specs.Certificate.{Certificate, Prices, certificate_of, lowest
 use Rattle.market.specs.Cost.{cost}
 use Rattle.market.specs.Bound.{bound}
 use Rattle.market.specs.Charges.{charges, charge_count}
-use Rattle.market.specs.Refusals.{Finding, clear, holds, first_of, outcome_of, delivery_of, buffer_after, AllClear}
+use Rattle.market.specs.Refusals.{Finding, clear, first_of, buffer_after, AllClear}
 use Rattle.market.specs.Outcome.{outcome, grounds, valued, valuation, case_grounds, certificate_grounds, price_right, row_met, listed_charges, charge_grounds, charge_answer, charge_buffer}
 use Rattle.market.specs.Promise.{Demand3}
 use Rattle.market.proofs.CaseLinearProgramme.{programme, parts, PriceMay, PricesMay, cost_is, bound_is, charges_are, feasible}
 use Rattle.market.proofs.Lengths.{charge_count_lem}
-use Rattle.market.proofs.Grounds.{none_holds, none_fails, meets_Meets}
+use Rattle.market.proofs.Grounds.{answered_ok, none_holds, none_fails, meets_Meets}
 use Rattle.market.proofs.Passed.{CertificatePassed, certificate_passed}
 use Rattle.market.proofs.Ranges.{bounded}
 
@@ -67,19 +66,10 @@ module _ (c : Case) (q : List ℕ) (k : Certificate) (h : CertificatePassed c q 
 less_gap : (a b : ℤ) → a -ℤ (a -ℤ b) ≡ b
 less_gap a b = simp sorted (simp count (omega arith))
 
--- accepted with v: no ground holds, and v is the valuation
-pub accepted_is : (w v : Valuation) (f : Finding) → outcome_of w f ≡ Accepted v → (f ≡ clear) × (w ≡ v)
-accepted_is w v clear e = (cc, cc)
-accepted_is w v (holds r) e = (cc, cc)
-
-delivered_is : (f : Finding) → delivery_of f ≡ Delivered → f ≡ clear
-delivered_is clear e = cc
-delivered_is (holds r) e = cc
-
-module _ (b q : List ℕ) (paid lowerBound gap : ℤ) (e : outcome b q ≡ Accepted (valued paid lowerBound gap)) where
+module _ (b q : List ℕ) (paid lowerBound gap : ℤ) (e : outcome b q ≡ Ok (valued paid lowerBound gap)) where
   is : (first_of (grounds b q) ≡ clear) × (valuation (case_of b) (certificate_of q) ≡ valued paid lowerBound gap)
   unfolding outcome
-  is = accepted_is (valuation (case_of b) (certificate_of q)) (valued paid lowerBound gap) (first_of (grounds b q)) e
+  is = answered_ok (valuation (case_of b) (certificate_of q)) (valued paid lowerBound gap) (first_of (grounds b q)) e
 
   clear_both : AllClear (case_grounds b) × AllClear (certificate_grounds (case_of b) q (certificate_of q))
   clear_both = each_split (λ g. g ≡ clear) (case_grounds b) (certificate_grounds (case_of b) q (certificate_of q)) (none_holds (grounds b q) is.0)
@@ -111,10 +101,10 @@ module _ (b q : List ℕ) (paid lowerBound gap : ℤ) (e : outcome b q ≡ Accep
   listed_count : length (listed_charges b q) ≡ charge_count (case_of b)
   listed_count = charge_count_lem (case_of b) (certificate_of q).amount (certificate_of q).price
 
-  written : (buffer : List ℤ) → charge_answer b q (length buffer) ≡ Delivered → charge_buffer b q buffer ≡ listed_charges b q ++ drop (charge_count (case_of b)) buffer
+  written : (buffer : List ℤ) → charge_answer b q (length buffer) ≡ Ok tt → charge_buffer b q buffer ≡ listed_charges b q ++ drop (charge_count (case_of b)) buffer
   unfolding charge_answer charge_buffer
   written buffer d =
-      ap (λ (f : Finding). buffer_after f (listed_charges b q) buffer) (delivered_is (first_of (charge_grounds b q (length buffer))) d)
+      ap (λ (f : Finding). buffer_after f (listed_charges b q) buffer) (answered_ok {A = Unit {0}} tt tt (first_of (charge_grounds b q (length buffer))) d).0
       ∙ ap (λ (n : ℕ). listed_charges b q ++ drop n buffer) listed_count
 
 pub demand3 : Demand3

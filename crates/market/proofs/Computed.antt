@@ -1,9 +1,9 @@
 -- The worked interval, self-schedules out of reach, trips, 12 flowgates and more, the refusals and the order of prices and charges, by
 -- computation.
+use Rattle.std.specs.Prelude.{Ok}
 use mathlib.Core.Path.{◌≡◌, refl}
 use lib.IntN.{pos}
 use Rattle.arith.specs.Sums.{min_ℤ, sum_of, total_of, upto, all, across}
-use Rattle.market.specs.declared.Outcome.TheVariants.{Accepted}
 use Rattle.market.specs.Case.{width_of}
 use Rattle.market.specs.CaseFile.{case_of, resource_at}
 use Rattle.market.specs.CaseCheck.{length_right, version_right, counts_right, case_size_right, reserve_in_range, resource_in_range, flowgate_in_range, fields_in_range, steps_follow, steps_right, energy_steps_right, steps_rule, pairs_ordered, limits_ordered}
@@ -64,6 +64,6 @@ unfolding min_ℤ sum_of upto all across width_of case_of resource_at has_trippe
 in_order = tt
 
 -- so what is shown of accepted certificates is not shown of none
-pub worked_k_accepted : outcome worked_k worked_q ≡ Accepted (valued (pos 140000000000) (pos 140000000000) (pos 0))
+pub worked_k_accepted : outcome worked_k worked_q ≡ Ok (valued (pos 140000000000) (pos 140000000000) (pos 0))
 unfolding min_ℤ sum_of upto all across width_of case_of resource_at length_right version_right counts_right case_size_right reserve_in_range resource_in_range flowgate_in_range fields_in_range steps_follow steps_right energy_steps_right steps_rule pairs_ordered limits_ordered has_tripped running availability_of on_line max_of min_of hi_of lo_of quantities ramp_of share_of on_line_bound bound_when service_bound upper_bound rows none one minus_one entries spins in_reserve in_limit coefficient right_side left_side slack amount_at price_at certificate_of priced quantity_of service_price offer priced_upper_bound filled part cost row_value net_price lowest bound first_failing first_of case_grounds same_counts form_grounds certificate_grounds valuation outcome
 worked_k_accepted = refl

@@ -1,4 +1,5 @@
 -- Lists of grounds: what it says of each that the first that holds is none, or is this one.
+use Rattle.std.specs.Prelude.{Ok}
 use mathlib.Core.Path.{◌≡◌, refl, sym, ◌∙◌, ap, subst}
 use mathlib.Core.Bool.{Bool, true, false}
 use mathlib.Core.List.{List, [], ◌∷◌, ◌++◌}
@@ -12,7 +13,7 @@ use Rattle.arith.proofs.Order.{≤ℤ-antisymm}
 use Rattle.arith.proofs.AllTests.{and_split}
 use Rattle.market.specs.declared.Refusal.{Refusal}
 use Rattle.market.specs.Rows.{Sense, equal, at_least, Meets}
-use Rattle.market.specs.Refusals.{Finding, clear, holds, unless, first_failing, first_of, FirstHolds, AllClear}
+use Rattle.market.specs.Refusals.{answered, Finding, clear, holds, unless, first_failing, first_of, FirstHolds, AllClear}
 use Rattle.market.specs.Outcome.{meets}
 use Rattle.market.proofs.FirstFailing.{or_else}
 
@@ -103,3 +104,9 @@ meets_Meets at_least v h = record { le = h }
 pub Meets_meets : (s : Sense) (v : ℤ) → Meets s v → T (meets s v)
 Meets_meets equal v h = rw h tt
 Meets_meets at_least v h = h.le
+
+-- an answer of success: no ground holds, and the value is the answer's
+module _ {A : Type 0} where
+  pub answered_ok : (value v : A) (f : Finding) → answered value f ≡ Ok v → (f ≡ clear) × (value ≡ v)
+  answered_ok value v clear e = (refl, cc)
+  answered_ok value v (holds r) e = (cc, cc)

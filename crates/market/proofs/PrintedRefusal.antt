@@ -1,4 +1,5 @@
 -- The program's text is a refusal's exactly when that refusal is the first that holds, 17 included.
+use Rattle.std.specs.Prelude.{Ok}
 use mathlib.Core.Path.{◌≡◌, refl, sym, ◌∙◌, ap}
 use mathlib.Core.Bool.{Bool, true, false}
 use mathlib.Core.List.{List, [], ◌∷◌}
@@ -13,13 +14,12 @@ use Rattle.arith.specs.Sums.{all}
 use Rattle.market.specs.declared.Refusal.{Refusal}
 use Rattle.market.specs.declared.Refusal.TheVariants.{AboveBound, RowBroken, InputLength}
 use Rattle.market.specs.declared.Valuation.{Valuation}
-use Rattle.market.specs.declared.Outcome.TheVariants.{Accepted}
 use Rattle.market.specs.Case.{Case}
 use Rattle.market.specs.CaseFile.{case_of}
 use Rattle.market.specs.UpperBounds.{quantities}
 use Rattle.market.specs.Rows.{rows}
 use Rattle.market.specs.Certificate.{Certificate, certificate_of}
-use Rattle.market.specs.Refusals.{Finding, clear, holds, unless, place_of, first_of, FirstHolds, outcome_of}
+use Rattle.market.specs.Refusals.{Finding, clear, holds, unless, place_of, first_of, FirstHolds, answered}
 use Rattle.market.specs.Outcome.{Valid, case_grounds, form_grounds, certificate_grounds, grounds, valuation, outcome}
 use Rattle.market.specs.Program.{case_in, certificate_in, most_input, input_ground, program_grounds, refusal_line, report, printed, printed_of}
 use Rattle.market.specs.RefusedExactly.{Exactly, FirstAt, PlacesExactly, accepted_text}
@@ -67,16 +67,16 @@ module _ (b q : List ℕ) where
 
 -- ---- which finding a text tells: a line that begins with 'refused' is none that begins with 'cost'
 module _ (c : Case) (k : Certificate) (v : Valuation) where
-  not_accepted : {A : Type 0} (r : Refusal) → report c k (Accepted v) ≡ refusal_line r → A
+  not_accepted : {A : Type 0} (r : Refusal) → report c k (Ok v) ≡ refusal_line r → A
   unfolding report refusal_line
   not_accepted r e = absurd (let z : ◌≡◌ {A = ℕ} 99 114 = ap (λ (l : List ℕ). get_or l 0 0) e in omega arith)
 
-  refused_text : (f : Finding) → ((s : Refusal) → f ≡ holds s → place_of s < twenty_digits) → (r : Refusal) → report c k (outcome_of v f) ≡ refusal_line r → f ≡ holds r
+  refused_text : (f : Finding) → ((s : Refusal) → f ≡ holds s → place_of s < twenty_digits) → (r : Refusal) → report c k (answered v f) ≡ refusal_line r → f ≡ holds r
   unfolding report
   refused_text clear l r e = not_accepted r e
   refused_text (holds s) l r e = ap holds (sym (line_same r s (l s refl) (sym e)))
 
-  accepted_text_lem : (f : Finding) → report c k (outcome_of v f) ≡ report c k (Accepted v) → f ≡ clear
+  accepted_text_lem : (f : Finding) → report c k (answered v f) ≡ report c k (Ok v) → f ≡ clear
   unfolding report
   accepted_text_lem clear e = refl
   accepted_text_lem (holds s) e = not_accepted s (sym e)
@@ -92,7 +92,7 @@ module _ (input : List ℕ) where
   q = certificate_in input
 
   abbrev text_of : Finding → List ℕ
-  text_of f = report (case_of b) (certificate_of q) (outcome_of (valuation (case_of b) (certificate_of q)) f)
+  text_of f = report (case_of b) (certificate_of q) (answered (valuation (case_of b) (certificate_of q)) f)
 
   text_from : (g : Finding) → printed_of input g ≡ text_of (first_of (g ∷ grounds b q))
   unfolding report first_of outcome

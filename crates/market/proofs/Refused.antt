@@ -1,4 +1,6 @@
 -- Each operation is refused exactly on the first ground that holds, 13 and 14 with their places.
+use Rattle.market.specs.declared.Refusal.{Refusal}
+use Rattle.std.specs.Prelude.{Result, Ok, Err}
 use mathlib.Core.Path.{◌≡◌, refl, sym, ◌∙◌, ap}
 use mathlib.Core.List.{List, [], ◌∷◌}
 use Prim.Native.Nat.{ℕ}
@@ -6,20 +8,11 @@ use lib.Dec.{leb}
 use lib.ListN.{length}
 use Rattle.arith.specs.Sums.{all}
 use Rattle.market.specs.declared.Refusal.TheVariants.{BufferShort}
-use Rattle.market.specs.declared.CaseAnswer.{CaseAnswer}
-use Rattle.market.specs.declared.CaseAnswer.TheVariants as C
-use Rattle.market.specs.declared.Valuation.{Valuation}
-use Rattle.market.specs.declared.Outcome.{Outcome}
-use Rattle.market.specs.declared.Outcome.TheVariants as O
-use Rattle.market.specs.declared.Delivery.{Delivery}
-use Rattle.market.specs.declared.Delivery.TheVariants as D
-use Rattle.market.specs.declared.Transfer.{Transfer}
-use Rattle.market.specs.declared.Transfer.TheVariants as W
 use Rattle.market.specs.CaseFile.{case_of}
 use Rattle.market.specs.Certificate.{certificate_of}
 use Rattle.market.specs.Charges.{charge_count}
 use Rattle.market.specs.Prices.{price_count}
-use Rattle.market.specs.Refusals.{Finding, clear, holds, first_of, case_answer_of, outcome_of, delivery_of, transfer_of}
+use Rattle.market.specs.Refusals.{Finding, clear, holds, first_of, answered}
 use Rattle.market.specs.Outcome.{case_grounds, case_answer, form_grounds, certificate_grounds, grounds, valuation, outcome, price_grounds, price_answer, charge_grounds, charge_answer}
 use Rattle.market.specs.Numbers.{case_numbers, certificate_numbers, case_file, certificate_file, read_case_grounds, read_case, read_certificate_grounds, read_certificate, write_case_grounds, write_case, write_certificate_grounds, write_certificate}
 use Rattle.market.specs.RefusedExactly.{Exactly, PlacesExactly, RefusedExactly}
@@ -40,80 +33,52 @@ module _ {A : Type 0} (answer_of : Finding → A) (findingIn : A → Finding) (t
         success_exactly = ((λ e. none_holds gs (same_finding (first_of gs) clear e)), (λ h. ap answer_of (all_clear gs h)));
       }
 
-in_case_answer : CaseAnswer → Finding
-in_case_answer C.Valid = clear
-in_case_answer (C.Refused r) = holds r
+-- what a finding was, from its answer
+module _ {A : Type 0} where
+  found_in : Result A Refusal → Finding
+  found_in (Ok value) = clear
+  found_in (Err r) = holds r
 
-of_case_answer : (f : Finding) → in_case_answer (case_answer_of f) ≡ f
-unfolding in_case_answer
-of_case_answer clear = refl
-of_case_answer (holds r) = refl
+  found_in-answered : (value : A) (f : Finding) → found_in (answered value f) ≡ f
+  unfolding found_in
+  found_in-answered value clear = refl
+  found_in-answered value (holds r) = refl
 
-in_outcome : Outcome → Finding
-in_outcome (O.Accepted v) = clear
-in_outcome (O.Refused r) = holds r
-
-of_outcome : (v : Valuation) (f : Finding) → in_outcome (outcome_of v f) ≡ f
-unfolding in_outcome
-of_outcome v clear = refl
-of_outcome v (holds r) = refl
-
-in_delivery : Delivery → Finding
-in_delivery D.Delivered = clear
-in_delivery (D.Refused r) = holds r
-
-of_delivery : (f : Finding) → in_delivery (delivery_of f) ≡ f
-unfolding in_delivery
-of_delivery clear = refl
-of_delivery (holds r) = refl
-
-in_transfer : Transfer → Finding
-in_transfer (W.Written n) = clear
-in_transfer (W.Refused r) = holds r
-
-of_transfer : (n : ℕ) (f : Finding) → in_transfer (transfer_of n f) ≡ f
-unfolding in_transfer
-of_transfer n clear = refl
-of_transfer n (holds r) = refl
-
-deliveries : (gs : List Finding) → Exactly gs (delivery_of (first_of gs)) D.Refused D.Delivered
-deliveries = exactly delivery_of in_delivery of_delivery
-
-transfers : (n : ℕ) (gs : List Finding) → Exactly gs (transfer_of n (first_of gs)) W.Refused (W.Written n)
-transfers n = exactly (transfer_of n) in_transfer (of_transfer n)
+  answers : (value : A) (gs : List Finding) → Exactly gs (answered value (first_of gs)) Err (Ok value)
+  answers value = exactly (answered value) found_in (found_in-answered value)
 
 -- 15, of a lent buffer of n numbers
 abbrev room_tests : ℕ → ℕ → List Test
 room_tests needed n = test (leb needed n) BufferShort ∷ []
 
-certificate_exactly : (b q : List ℕ) → Exactly (grounds b q) (outcome b q) O.Refused (O.Accepted (valuation (case_of b) (certificate_of q)))
+certificate_exactly : (b q : List ℕ) → Exactly (grounds b q) (outcome b q) Err (Ok (valuation (case_of b) (certificate_of q)))
 unfolding outcome
-certificate_exactly b q = let v = valuation (case_of b) (certificate_of q) in exactly (outcome_of v) in_outcome (of_outcome v) (grounds b q)
+certificate_exactly b q = answers (valuation (case_of b) (certificate_of q)) (grounds b q)
 
-certificate_placed : (b q : List ℕ) → PlacesExactly b q (outcome b q) O.Refused
+certificate_placed : (b q : List ℕ) → PlacesExactly b q (outcome b q) Err
 unfolding all case_grounds form_grounds certificate_grounds
 certificate_placed b q = places b q [] tt tt (certificate_exactly b q).refused_exactly
 
-price_exactly : (b q : List ℕ) (n : ℕ) → Exactly (price_grounds b q n) (price_answer b q n) D.Refused D.Delivered
+price_exactly : (b q : List ℕ) (n : ℕ) → Exactly (price_grounds b q n) (price_answer b q n) Err (Ok tt)
 unfolding price_answer
-price_exactly b q n = deliveries (price_grounds b q n)
+price_exactly b q n = answers tt (price_grounds b q n)
 
-charge_exactly : (b q : List ℕ) (n : ℕ) → Exactly (charge_grounds b q n) (charge_answer b q n) D.Refused D.Delivered
+charge_exactly : (b q : List ℕ) (n : ℕ) → Exactly (charge_grounds b q n) (charge_answer b q n) Err (Ok tt)
 unfolding charge_answer
-charge_exactly b q n = deliveries (charge_grounds b q n)
+charge_exactly b q n = answers tt (charge_grounds b q n)
 
 pub refused_exactly : RefusedExactly
 unfolding all other_number case_answer read_case read_certificate write_case write_certificate price_grounds charge_grounds
 refused_exactly =
     record {
-      case_check = λ b. exactly case_answer_of in_case_answer of_case_answer (case_grounds b);
+      case_check = λ b. answers tt (case_grounds b);
       certificate_check = certificate_exactly;
       price_call = price_exactly;
       charge_call = charge_exactly;
-      case_reading = λ b n. transfers (length (case_numbers b)) (read_case_grounds b n);
-      certificate_reading = λ q n. transfers (length (certificate_numbers q)) (read_certificate_grounds q n);
-      case_writing = λ vs n. transfers (length (case_file vs)) (write_case_grounds vs n);
-      certificate_writing = λ vs n. transfers (length (certificate_file vs)) (write_certificate_grounds vs n);
+      case_reading = λ b n. answers (length (case_numbers b)) (read_case_grounds b n);
+      certificate_reading = λ q n. answers (length (certificate_numbers q)) (read_certificate_grounds q n);
+      case_writing = λ vs n. answers (length (case_file vs)) (write_case_grounds vs n);
+      certificate_writing = λ vs n. answers (length (certificate_file vs)) (write_certificate_grounds vs n);
       program = program_exactly;
       certificate_places = certificate_placed;
       price_places = λ b q n. places b q (room_tests (price_count (case_of b)) n) tt tt (price_exactly b q n).refused_exactly;

@@ -1,4 +1,5 @@
 -- Numbers that were written are read back as themselves, and a valid file's numbers are written as that file's bytes.
+use Rattle.std.specs.Prelude.{Ok}
 use mathlib.Core.Path.{◌≡◌, refl}
 use mathlib.Core.List.{List, [], ◌∷◌, ◌++◌}
 use Prim.Native.Nat.{ℕ, ◌≤◌}
@@ -10,23 +11,17 @@ use lib.ListN.{length, take, drop}
 use lib.Seq.{take-append_seam}
 use Rattle.arith.proofs.Lists.{each_join, each_split}
 use Rattle.market.specs.declared.Refusal.TheVariants.{CaseLength, CaseVersion, CaseSize, CertificateLength, CertificateVersion, CertificateSize, BufferShort}
-use Rattle.market.specs.declared.Transfer.TheVariants.{Written}
 use Rattle.market.specs.CaseFile.{least_case_size, case_of, case_size}
 use Rattle.market.specs.CaseCheck.{case_size_right}
 use Rattle.market.specs.Certificate.{least_certificate_size, certificate_size}
-use Rattle.market.specs.Refusals.{Finding, clear, holds, first_of, transfer_of, buffer_after, AllClear}
+use Rattle.market.specs.Refusals.{Finding, clear, first_of, answered, buffer_after, AllClear}
 use Rattle.market.specs.Outcome.{case_grounds, room}
 use Rattle.market.specs.Numbers.{case_fields, certificate_fields, numbers_of, case_numbers, certificate_numbers, certificate_file_grounds, case_file, field_grounds, read_case_grounds, read_certificate_grounds, read_case, read_certificate, read_case_buffer, read_certificate_buffer, file_for, list_grounds, write_case_grounds, write_certificate_grounds, write_case, write_certificate, write_case_buffer, write_certificate_buffer}
 use Rattle.market.specs.RoundTrips.{RoundTrip, RoundTrips}
-use Rattle.market.proofs.Grounds.{none_holds, all_clear, clear_unless}
+use Rattle.market.proofs.Grounds.{answered_ok, none_holds, all_clear, clear_unless}
 use Rattle.market.proofs.FileSizes.{case_count, certificate_count, case_fills, certificate_fills}
 use Rattle.market.proofs.FileContents.{CountsFirst}
 use Rattle.market.proofs.FileTrips.{FileKind, Right, file_grounds, number_grounds, clear_right, written_first, written_valid, valid_written}
-
--- an answer of success, for a list of m elements
-written_clear : (m n : ℕ) (g : Finding) → transfer_of m g ≡ Written n → (g ≡ clear) × (m ≡ n)
-written_clear m n clear e = (refl, cc)
-written_clear m n (holds r) e = (cc, cc)
 
 -- ---- an operation that hands over a list unless a ground holds or the lent buffer is too short
 module _ {A : Type 0} where
@@ -35,7 +30,7 @@ module _ {A : Type 0} where
 
   -- where none holds, the wanted list is handed over
   handed : (gs : List Finding) (new wanted old : List A) → new ≡ wanted → AllClear gs → length wanted ≤ length old →
-      (transfer_of (length new) (first_of (handing gs new (length old))) ≡ Written (length wanted))
+      (answered (length new) (first_of (handing gs new (length old))) ≡ Ok (length wanted))
       × (buffer_after (first_of (handing gs new (length old))) new old ≡ wanted ++ drop (length wanted) old)
   handed gs new wanted old e h l =
       let enough = clear_unless (leb (length wanted) (length old)) BufferShort (le→leb (length wanted) (length old) l) in
@@ -43,10 +38,10 @@ module _ {A : Type 0} where
       rw (e, none) (refl, refl)
 
   -- the n elements that were handed over
-  pub received : (gs : List Finding) (new old : List A) (n : ℕ) → transfer_of (length new) (first_of (handing gs new (length old))) ≡ Written n →
+  pub received : (gs : List Finding) (new old : List A) (n : ℕ) → answered (length new) (first_of (handing gs new (length old))) ≡ Ok n →
       AllClear gs × (take n (buffer_after (first_of (handing gs new (length old))) new old) ≡ new)
   received gs new old n e =
-      let w = written_clear (length new) n (first_of (handing gs new (length old))) e in
+      let w = answered_ok (length new) n (first_of (handing gs new (length old))) e in
       let all = none_holds (handing gs new (length old)) w.0 in
       ((each_split (λ g. g ≡ clear) gs (room (length new) (length old) ∷ []) all).0, rw (w.0, ← w.1) (take-append_seam new (drop (length new) old)))
 
@@ -59,9 +54,9 @@ module _ (K : FileKind) where
   file = file_for K.fields
 
   round_trip : RoundTrip (file_grounds K) numbers
-      (λ b n. transfer_of (length (numbers b)) (first_of (handing (file_grounds K b) (numbers b) n)))
+      (λ b n. answered (length (numbers b)) (first_of (handing (file_grounds K b) (numbers b) n)))
       (λ b old. buffer_after (first_of (handing (file_grounds K b) (numbers b) (length old))) (numbers b) old)
-      (λ vs n. transfer_of (length (file vs)) (first_of (handing (number_grounds K vs) (file vs) n)))
+      (λ vs n. answered (length (file vs)) (first_of (handing (number_grounds K vs) (file vs) n)))
       (λ vs old. buffer_after (first_of (handing (number_grounds K vs) (file vs) (length old))) (file vs) old)
   round_trip =
       record {

@@ -1,7 +1,7 @@
 -- A resource's status bits and flags (01, 'The case file').
-use Rattle.std.specs.Prelude.{Bool, true, false, ℕ, ◌/◌, ◌%◌, leb, eqb}
-use Rattle.market.specs.declared.StatusRead.{StatusRead}
-use Rattle.market.specs.declared.StatusRead.TheVariants.{Bits, OutOfRange}
+use Rattle.std.specs.Prelude.{Result, Ok, Err, Bool, true, false, ℕ, ◌/◌, ◌%◌, leb, eqb}
+use Rattle.market.specs.declared.Status.{Status}
+use Rattle.market.specs.declared.UnknownStatus.{UnknownStatus}
 
 -- the bit of value v is set in n
 abbrev pub has : ℕ → ℕ → Bool
@@ -21,11 +21,11 @@ abbrev pub on_line_supplemental : ℕ → Bool
 on_line_supplemental = has 8
 
 -- status bits above 8 are zero
-abbrev pub status_if : Bool → ℕ → StatusRead
-status_if true n = Bits (record { 0 = n })
-status_if false n = OutOfRange
+abbrev pub status_if : Bool → ℕ → Result Status UnknownStatus
+status_if true n = Ok (record { 0 = n })
+status_if false n = Err (record { 0 = n })
 
-abbrev pub status_of : ℕ → StatusRead
+abbrev pub status_of : ℕ → Result Status UnknownStatus
 status_of n = status_if (leb n 15) n
 
 -- the bits up to 8 of any byte

@@ -1,5 +1,6 @@
 pub mod Bytes
 pub mod Bits
+pub mod Kinds
 pub mod Edition
 pub mod Case
 pub mod CaseFile

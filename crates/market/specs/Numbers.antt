@@ -1,8 +1,9 @@
 -- Files as lists of numbers: every field but length and version, in order (01, 'How each operation refuses').
+use Rattle.market.specs.declared.Refusal.{Refusal}
+use Rattle.std.specs.Prelude.{Result}
 use Rattle.std.specs.Prelude.{Bool, true, false, ◌&&◌, List, [], ◌∷◌, ◌++◌, ℕ, suc, ◌+◌, ◌-◌, ◌/◌, ◌%◌, length, get_or, replicate, leb, eqb, ℤ, pos, negsuc, neg_ℤ, nat_abs}
 use Rattle.arith.specs.Sums.{total_of, upto, across}
 use Rattle.market.specs.declared.Refusal.TheVariants.{Counts, FieldRange, StepRule, LimitPair, CertificateLength, CertificateVersion, CertificateSize, NumberList}
-use Rattle.market.specs.declared.Transfer.{Transfer}
 use Rattle.market.specs.Bytes.{u8_at, u16_at, u32_at, i16_at, i32_at, within_ℤ}
 use Rattle.market.specs.Case.{curves, energy_steps}
 use Rattle.market.specs.CaseFile.{case_of}
@@ -10,7 +11,7 @@ use Rattle.market.specs.CaseCheck.{most_resources, most_zones, most_flowgates, l
 use Rattle.market.specs.UpperBounds.{services}
 use Rattle.market.specs.Rows.{limits}
 use Rattle.market.specs.Certificate.{least_certificate_size, certificate_size}
-use Rattle.market.specs.Refusals.{Finding, unless, first_of, transfer_of, buffer_after}
+use Rattle.market.specs.Refusals.{Finding, unless, first_of, answered, buffer_after}
 use Rattle.market.specs.Outcome.{case_grounds, room}
 
 -- ---- fields
@@ -143,11 +144,11 @@ read_case_grounds b n = case_grounds b ++ (room (length (case_numbers b)) n ∷ 
 unfoldable pub read_certificate_grounds : List ℕ → ℕ → List Finding
 read_certificate_grounds q n = certificate_file_grounds q ++ (room (length (certificate_numbers q)) n ∷ [])
 
-unfoldable pub read_case : List ℕ → ℕ → Transfer
-read_case b n = transfer_of (length (case_numbers b)) (first_of (read_case_grounds b n))
+unfoldable pub read_case : List ℕ → ℕ → Result ℕ Refusal
+read_case b n = answered (length (case_numbers b)) (first_of (read_case_grounds b n))
 
-unfoldable pub read_certificate : List ℕ → ℕ → Transfer
-read_certificate q n = transfer_of (length (certificate_numbers q)) (first_of (read_certificate_grounds q n))
+unfoldable pub read_certificate : List ℕ → ℕ → Result ℕ Refusal
+read_certificate q n = answered (length (certificate_numbers q)) (first_of (read_certificate_grounds q n))
 
 unfoldable pub read_case_buffer : List ℕ → List ℤ → List ℤ
 read_case_buffer b old = buffer_after (first_of (read_case_grounds b (length old))) (case_numbers b) old
@@ -198,11 +199,11 @@ write_case_grounds vs n = list_grounds case_fields vs ++ (field_grounds (case_fi
 unfoldable pub write_certificate_grounds : List ℤ → ℕ → List Finding
 write_certificate_grounds vs n = list_grounds certificate_fields vs ++ (room (length (certificate_file vs)) n ∷ [])
 
-unfoldable pub write_case : List ℤ → ℕ → Transfer
-write_case vs n = transfer_of (length (case_file vs)) (first_of (write_case_grounds vs n))
+unfoldable pub write_case : List ℤ → ℕ → Result ℕ Refusal
+write_case vs n = answered (length (case_file vs)) (first_of (write_case_grounds vs n))
 
-unfoldable pub write_certificate : List ℤ → ℕ → Transfer
-write_certificate vs n = transfer_of (length (certificate_file vs)) (first_of (write_certificate_grounds vs n))
+unfoldable pub write_certificate : List ℤ → ℕ → Result ℕ Refusal
+write_certificate vs n = answered (length (certificate_file vs)) (first_of (write_certificate_grounds vs n))
 
 unfoldable pub write_case_buffer : List ℤ → List ℕ → List ℕ
 write_case_buffer vs old = buffer_after (first_of (write_case_grounds vs (length old))) (case_file vs) old

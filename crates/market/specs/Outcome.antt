@@ -1,12 +1,11 @@
 -- How the case check, the certificate check, and the calls for prices and charges end (01, 'How each operation refuses').
+use Rattle.market.specs.declared.Refusal.{Refusal}
+use Rattle.std.specs.Prelude.{Result}
 use Rattle.std.specs.Prelude.{Bool, ◌&&◌, List, [], ◌∷◌, ◌++◌, ℕ, length, leb, eqb, ℤ, pos}
 use Rattle.std.specs.Int.Signed.{le_z}
 use Rattle.arith.specs.Sums.{all}
 use Rattle.market.specs.declared.Refusal.TheVariants.{CaseLength, CaseVersion, Counts, CaseSize, FieldRange, StepRule, LimitPair, CertificateLength, CertificateVersion, CountsDiffer, CertificateSize, PriceRange, AboveBound, RowBroken, BufferShort}
 use Rattle.market.specs.declared.Valuation.{Valuation}
-use Rattle.market.specs.declared.CaseAnswer.{CaseAnswer}
-use Rattle.market.specs.declared.Outcome.{Outcome}
-use Rattle.market.specs.declared.Delivery.{Delivery}
 use Rattle.market.specs.Bytes.{within_ℤ}
 use Rattle.market.specs.Case.{Case}
 use Rattle.market.specs.CaseFile.{least_case_size, case_of}
@@ -18,7 +17,7 @@ use Rattle.market.specs.Cost.{cost}
 use Rattle.market.specs.Bound.{bound}
 use Rattle.market.specs.Charges.{gap, charges, charge_count}
 use Rattle.market.specs.Prices.{price_list, price_count}
-use Rattle.market.specs.Refusals.{Finding, unless, first_failing, first_of, case_answer_of, outcome_of, delivery_of, buffer_after, AllClear}
+use Rattle.market.specs.Refusals.{Finding, unless, first_failing, first_of, answered, buffer_after, AllClear}
 
 -- ---- check a case: 1 to 7, of the bytes b
 unfoldable pub case_grounds : List ℕ → List Finding
@@ -32,8 +31,8 @@ case_grounds b =
     ∷ unless (limits_ordered (case_of b)) LimitPair
     ∷ []
 
-unfoldable pub case_answer : List ℕ → CaseAnswer
-case_answer b = case_answer_of (first_of (case_grounds b))
+unfoldable pub case_answer : List ℕ → Result (Unit {0}) Refusal
+case_answer b = answered tt (first_of (case_grounds b))
 
 -- a case is valid if none of 1 to 7 holds of its bytes
 abbrev pub Valid : List ℕ → Type 0
@@ -100,8 +99,8 @@ valued cost bound gap = record { cost = record { 0 = cost }; bound = record { 0 
 unfoldable pub valuation : Case → Certificate → Valuation
 valuation c d = valued (cost c d.amount) (bound c d.price) (gap c d.amount d.price)
 
-unfoldable pub outcome : List ℕ → List ℕ → Outcome
-outcome b q = outcome_of (valuation (case_of b) (certificate_of q)) (first_of (grounds b q))
+unfoldable pub outcome : List ℕ → List ℕ → Result Valuation Refusal
+outcome b q = answered (valuation (case_of b) (certificate_of q)) (first_of (grounds b q))
 
 -- ---- prices, charges: 1 to 14, then 15, a lent buffer of n numbers where more are needed
 abbrev pub room : ℕ → ℕ → Finding
@@ -113,11 +112,11 @@ price_grounds b q n = grounds b q ++ (room (price_count (case_of b)) n ∷ [])
 unfoldable pub charge_grounds : List ℕ → List ℕ → ℕ → List Finding
 charge_grounds b q n = grounds b q ++ (room (charge_count (case_of b)) n ∷ [])
 
-unfoldable pub price_answer : List ℕ → List ℕ → ℕ → Delivery
-price_answer b q n = delivery_of (first_of (price_grounds b q n))
+unfoldable pub price_answer : List ℕ → List ℕ → ℕ → Result (Unit {0}) Refusal
+price_answer b q n = answered tt (first_of (price_grounds b q n))
 
-unfoldable pub charge_answer : List ℕ → List ℕ → ℕ → Delivery
-charge_answer b q n = delivery_of (first_of (charge_grounds b q n))
+unfoldable pub charge_answer : List ℕ → List ℕ → ℕ → Result (Unit {0}) Refusal
+charge_answer b q n = answered tt (first_of (charge_grounds b q n))
 
 abbrev pub listed_charges : List ℕ → List ℕ → List ℤ
 listed_charges b q = charges (case_of b) (certificate_of q).amount (certificate_of q).price

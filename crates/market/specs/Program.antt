@@ -1,10 +1,10 @@
 -- The program: how it parts its input, and the text that it prints (01, 'How each operation refuses', 'Worked interval').
+use Rattle.market.specs.declared.Valuation.{Valuation}
+use Rattle.std.specs.Prelude.{Result, Ok, Err}
 use Rattle.std.specs.Prelude.{true, false, List, [], ◌∷◌, ◌++◌, map, ℕ, zero, suc, ◌+◌, ◌/◌, ◌%◌, length, take, drop, leb, ltb, ℤ, pos, negsuc}
 use Rattle.arith.specs.Sums.{upto, across}
 use Rattle.market.specs.declared.Refusal.{Refusal}
 use Rattle.market.specs.declared.Refusal.TheVariants.{InputLength}
-use Rattle.market.specs.declared.Outcome.{Outcome}
-use Rattle.market.specs.declared.Outcome.TheVariants.{Accepted, Refused}
 use Rattle.market.specs.Bytes.{u32_at}
 use Rattle.market.specs.Case.{Case}
 use Rattle.market.specs.CaseFile.{case_of}
@@ -73,9 +73,9 @@ place_figures (suc at) = pos (suc at) ∷ []
 unfoldable pub refusal_line : Refusal → List ℕ
 refusal_line why = line refused_word (pos (number_of why) ∷ place_figures (place_of why))
 
-unfoldable pub report : Case → Certificate → Outcome → List ℕ
-report c d (Refused why) = refusal_line why
-report c d (Accepted values) =
+unfoldable pub report : Case → Certificate → Result Valuation Refusal → List ℕ
+report c d (Err why) = refusal_line why
+report c d (Ok values) =
     line cost_word (values.cost.0 ∷ [])
     ++ (line bound_word (values.bound.0 ∷ [])
     ++ (line gap_word (values.gap.0 ∷ [])

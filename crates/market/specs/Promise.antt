@@ -1,8 +1,7 @@
 -- Demand 3: what an accepted certificate shows, from the bytes of the case and of the certificate on. A field a sentence.
+use Rattle.std.specs.Prelude.{Ok}
 use Rattle.std.specs.Prelude.{List, ◌++◌, ◌↔◌, ◌≡◌, ℕ, length, drop, ℤ, pos, ◌-ℤ◌, ◌≤ℤ◌}
 use Rattle.arith.specs.Sums.{sum_of, Each}
-use Rattle.market.specs.declared.Outcome.TheVariants.{Accepted}
-use Rattle.market.specs.declared.Delivery.TheVariants.{Delivered}
 use Rattle.market.specs.CaseFile.{case_of}
 use Rattle.market.specs.UpperBounds.{Schedule}
 use Rattle.market.specs.Rows.{Bounded, Met}
@@ -34,7 +33,7 @@ pub record Promise (b q : List ℕ) (paid lowerBound gap : ℤ) : Type 0 where
   -- it is 0 exactly when each is 0
   pub zero_gap : (gap ≡ pos 0) ↔ Each (λ v. v ≡ pos 0) (listed_charges b q)
   -- they are the numbers that the call for charges writes
-  pub written : (buffer : List ℤ) → charge_answer b q (length buffer) ≡ Delivered → charge_buffer b q buffer ≡ listed_charges b q ++ drop (charge_count (case_of b)) buffer
+  pub written : (buffer : List ℤ) → charge_answer b q (length buffer) ≡ Ok tt → charge_buffer b q buffer ≡ listed_charges b q ++ drop (charge_count (case_of b)) buffer
 
 abbrev pub Demand3 : Type 0
-Demand3 = (b q : List ℕ) (paid lowerBound gap : ℤ) → outcome b q ≡ Accepted (valued paid lowerBound gap) → Promise b q paid lowerBound gap
+Demand3 = (b q : List ℕ) (paid lowerBound gap : ℤ) → outcome b q ≡ Ok (valued paid lowerBound gap) → Promise b q paid lowerBound gap

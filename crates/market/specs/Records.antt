@@ -1,5 +1,5 @@
 -- The records that code reads by value, as they follow from the figures of a case and of a certificate.
-use Rattle.std.specs.Prelude.{[], ◌∷◌, ℕ, ℤ, pos}
+use Rattle.std.specs.Prelude.{List, [], ◌∷◌, ℕ, eqb, ℤ, pos}
 use Rattle.market.specs.declared.Kw.{Kw}
 use Rattle.market.specs.declared.KwPerMinute.{KwPerMinute}
 use Rattle.market.specs.declared.Minutes.{Minutes}
@@ -11,8 +11,6 @@ use Rattle.market.specs.declared.ShiftFactor.{ShiftFactor}
 use Rattle.market.specs.declared.Grains.{Grains}
 use Rattle.market.specs.declared.Counts.{Counts}
 use Rattle.market.specs.declared.Step.{Step}
-use Rattle.market.specs.declared.OfferSteps.{OfferSteps}
-use Rattle.market.specs.declared.CurveSteps.{CurveSteps}
 use Rattle.market.specs.declared.State.{State}
 use Rattle.market.specs.declared.OutputLimits.{OutputLimits}
 use Rattle.market.specs.declared.Ramps.{Ramps}
@@ -20,13 +18,12 @@ use Rattle.market.specs.declared.OtherPowers.{OtherPowers}
 use Rattle.market.specs.declared.ReserveOffers.{ReserveOffers}
 use Rattle.market.specs.declared.ReserveTerms.{ReserveTerms}
 use Rattle.market.specs.declared.Terms.{Terms}
-use Rattle.market.specs.declared.ZoneRequirements.{ZoneRequirements}
-use Rattle.market.specs.declared.Amounts.{Amounts}
+use Rattle.market.specs.declared.PerService.{PerService}
 use Rattle.market.specs.declared.LimitPrices.{LimitPrices}
-use Rattle.market.specs.declared.CurveAmounts.{CurveAmounts}
-use Rattle.market.specs.declared.ReservePrices.{ReservePrices}
+use Rattle.market.specs.declared.PerCurve.{PerCurve}
 use Rattle.market.specs.declared.Resource as D
 use Rattle.market.specs.Bits.{status_bits}
+use Rattle.market.specs.Kinds.{kind_of}
 use Rattle.market.specs.Case.{Case, Resource, Curve, Reserve, regulating_reserve, contingency_reserve, short_term_reserve, operating, regulating_plus_spinning, regulating, short_term}
 use Rattle.market.specs.UpperBounds.{cleared_quantity, provided_quantity, energy, regulation, contingency, on_line_short_term, off_line_short_term, Schedule}
 use Rattle.market.specs.Rows.{Row, limit_row, max_with_reserve, max_with_short_term, minimum, high, low}
@@ -72,20 +69,17 @@ counts_in c = record { resources = c.resources; zones = c.zones; flowgates = c.f
 unfoldable pub offer_step_of : Resource → ℕ → Step
 offer_step_of r j = record { width = power (r.step_width j); price = cents (r.step_price j) }
 
-unfoldable pub offer_steps_of : Resource → OfferSteps
+unfoldable pub offer_steps_of : Resource → List Step
 offer_steps_of r =
-    record {
-      of =
-          offer_step_of r 0 ∷ offer_step_of r 1 ∷ offer_step_of r 2 ∷ offer_step_of r 3 ∷ offer_step_of r 4
-          ∷ offer_step_of r 5 ∷ offer_step_of r 6 ∷ offer_step_of r 7 ∷ offer_step_of r 8 ∷ offer_step_of r 9 ∷ [];
-    }
+    offer_step_of r 0 ∷ offer_step_of r 1 ∷ offer_step_of r 2 ∷ offer_step_of r 3 ∷ offer_step_of r 4
+    ∷ offer_step_of r 5 ∷ offer_step_of r 6 ∷ offer_step_of r 7 ∷ offer_step_of r 8 ∷ offer_step_of r 9 ∷ []
 
 unfoldable pub state_of : Resource → State
 state_of r =
     record {
-      kind = r.kind;
+      kind = kind_of r.kind;
       zone = r.zone;
-      breaker = r.breaker;
+      breaker_closed = eqb r.breaker 1;
       status = record { 0 = status_bits r.status };
       trip = minutes r.trip;
       flags = record { 0 = r.flags };
@@ -140,19 +134,11 @@ terms_of c =
 unfoldable pub curve_step_of : Case → Curve → ℕ → Step
 curve_step_of c k j = record { width = power (c.curve_width k j); price = price (c.curve_price k j) }
 
-unfoldable pub curve_steps_of : Case → Curve → CurveSteps
-curve_steps_of c k = record { of = curve_step_of c k 0 ∷ curve_step_of c k 1 ∷ curve_step_of c k 2 ∷ curve_step_of c k 3 ∷ [] }
-
-unfoldable pub zone_requirements_of : Case → ℕ → ZoneRequirements
-zone_requirements_of c z =
-    record {
-      of =
-          power (c.zone_requirement z operating) ∷ power (c.zone_requirement z regulating_plus_spinning)
-          ∷ power (c.zone_requirement z regulating) ∷ power (c.zone_requirement z short_term) ∷ [];
-    }
+unfoldable pub curve_steps_of : Case → Curve → List Step
+curve_steps_of c k = curve_step_of c k 0 ∷ curve_step_of c k 1 ∷ curve_step_of c k 2 ∷ curve_step_of c k 3 ∷ []
 
 -- ---- of a certificate
-unfoldable pub amounts_of : Schedule → ℕ → Amounts
+unfoldable pub amounts_of : Schedule → ℕ → PerService Kw
 amounts_of x i =
     record {
       energy = power (x (provided_quantity i energy));
@@ -173,7 +159,7 @@ limit_prices_of y i =
     }
 
 -- a figure for each curve
-abbrev pub curve_amounts_of : (Curve → ℤ) → CurveAmounts
+abbrev pub curve_amounts_of : (Curve → ℤ) → PerCurve Kw
 curve_amounts_of figure =
     record {
       operating = kw (figure operating);
@@ -182,11 +168,14 @@ curve_amounts_of figure =
       short_term = kw (figure short_term);
     }
 
-unfoldable pub cleared_of : Schedule → CurveAmounts
+unfoldable pub zone_requirements_of : Case → ℕ → PerCurve Kw
+zone_requirements_of c z = curve_amounts_of (λ k. pos (c.zone_requirement z k))
+
+unfoldable pub cleared_of : Schedule → PerCurve Kw
 cleared_of x = curve_amounts_of (λ k. pos (x (cleared_quantity k)))
 
 -- of the rows that `row_of` names for each curve: market_row, or zone_row z
-unfoldable pub reserve_prices_of : Prices → (Curve → Row) → ReservePrices
+unfoldable pub reserve_prices_of : Prices → (Curve → Row) → PerCurve Millicents
 reserve_prices_of y row_of =
     record {
       operating = millicents (y (row_of operating));

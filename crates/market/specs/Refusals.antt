@@ -1,19 +1,10 @@
 -- Refusals: their numbers and places, and the first ground of a list that holds (01, 'How each operation refuses').
+use Rattle.std.specs.Prelude.{Option, Some, None, Result, Ok, Err}
 use Rattle.std.specs.Prelude.{Bool, true, false, List, [], ◌∷◌, ◌++◌, ◌≡◌, ℕ, suc, pos, length, drop}
 use Rattle.arith.specs.Sums.{Each}
 use Rattle.market.specs.declared.Refusal.{Refusal}
 use Rattle.market.specs.declared.Refusal.TheVariants.{CaseLength, CaseVersion, Counts, CaseSize, FieldRange, StepRule, LimitPair, CertificateLength, CertificateVersion, CountsDiffer, CertificateSize, PriceRange, AboveBound, RowBroken, BufferShort, NumberList, InputLength}
 use Rattle.market.specs.declared.Valuation.{Valuation}
-use Rattle.market.specs.declared.First.{First}
-use Rattle.market.specs.declared.First.TheVariants.{None, At}
-use Rattle.market.specs.declared.CaseAnswer.{CaseAnswer}
-use Rattle.market.specs.declared.CaseAnswer.TheVariants as C
-use Rattle.market.specs.declared.Outcome.{Outcome}
-use Rattle.market.specs.declared.Outcome.TheVariants as O
-use Rattle.market.specs.declared.Delivery.{Delivery}
-use Rattle.market.specs.declared.Delivery.TheVariants as D
-use Rattle.market.specs.declared.Transfer.{Transfer}
-use Rattle.market.specs.declared.Transfer.TheVariants as W
 use Rattle.market.specs.declared.Answer.{Answer}
 use Rattle.market.specs.declared.CheckResult.{CheckResult}
 use Rattle.market.specs.declared.Count.{Count}
@@ -58,21 +49,21 @@ place_of NumberList = 0
 place_of InputLength = 0
 
 -- ---- what a C host receives for every case of every answer; 0 is success
-abbrev pub case_number_of : CaseAnswer → ℕ
-case_number_of C.Valid = 0
-case_number_of (C.Refused why) = number_of why
+abbrev pub case_number_of : Result (Unit {0}) Refusal → ℕ
+case_number_of (Ok done) = 0
+case_number_of (Err why) = number_of why
 
-abbrev pub result_of : Outcome → CheckResult
-result_of (O.Accepted values) = record { refusal = 0; place = 0; cost = values.cost.0; bound = values.bound.0; gap = values.gap.0 }
-result_of (O.Refused why) = record { refusal = number_of why; place = place_of why; cost = pos 0; bound = pos 0; gap = pos 0 }
+abbrev pub result_of : Result Valuation Refusal → CheckResult
+result_of (Ok values) = record { refusal = 0; place = 0; cost = values.cost.0; bound = values.bound.0; gap = values.gap.0 }
+result_of (Err why) = record { refusal = number_of why; place = place_of why; cost = pos 0; bound = pos 0; gap = pos 0 }
 
-abbrev pub answer_of : Delivery → Answer
-answer_of D.Delivered = record { refusal = 0; place = 0 }
-answer_of (D.Refused why) = record { refusal = number_of why; place = place_of why }
+abbrev pub answer_of : Result (Unit {0}) Refusal → Answer
+answer_of (Ok done) = record { refusal = 0; place = 0 }
+answer_of (Err why) = record { refusal = number_of why; place = place_of why }
 
-abbrev pub count_of : Transfer → Count
-count_of (W.Written n) = record { refusal = 0; count = n }
-count_of (W.Refused why) = record { refusal = number_of why; count = 0 }
+abbrev pub count_of : Result ℕ Refusal → Count
+count_of (Ok n) = record { refusal = 0; count = n }
+count_of (Err why) = record { refusal = number_of why; count = 0 }
 
 -- ---- grounds: what each test finds, in the order in which they refuse
 pub data Finding : Type 0 where
@@ -91,31 +82,20 @@ module _ {A : Type 0} where
   first_failing test whyAt n (e ∷ es) = elim (test e) [ true ↦ first_failing test whyAt (suc n) es | false ↦ holds (whyAt n) ]
 
 -- what a search for the first one answers
-abbrev pub found_at : (ℕ → Refusal) → First → Finding
+abbrev pub found_at : (ℕ → Refusal) → Option ℕ → Finding
 found_at whyAt None = clear
-found_at whyAt (At at) = holds (whyAt at)
+found_at whyAt (Some at) = holds (whyAt at)
 
 unfoldable pub first_of : List Finding → Finding
 first_of [] = clear
 first_of (clear ∷ gs) = first_of gs
 first_of (holds why ∷ gs) = holds why
 
--- the answers that a finding gives
-abbrev pub case_answer_of : Finding → CaseAnswer
-case_answer_of clear = C.Valid
-case_answer_of (holds why) = C.Refused why
-
-abbrev pub outcome_of : Valuation → Finding → Outcome
-outcome_of values clear = O.Accepted values
-outcome_of values (holds why) = O.Refused why
-
-abbrev pub delivery_of : Finding → Delivery
-delivery_of clear = D.Delivered
-delivery_of (holds why) = D.Refused why
-
-abbrev pub transfer_of : ℕ → Finding → Transfer
-transfer_of n clear = W.Written n
-transfer_of n (holds why) = W.Refused why
+-- the answer that a finding gives: the value, or the refusal
+module _ {A : Type 0} where
+  abbrev pub answered : A → Finding → Result A Refusal
+  answered value clear = Ok value
+  answered value (holds why) = Err why
 
 -- ---- for the reader: refused on a ground exactly when that ground holds and no earlier one does
 pub record FirstHolds (gs : List Finding) (why : Refusal) : Type 0 where

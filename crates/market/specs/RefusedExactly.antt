@@ -1,14 +1,11 @@
 -- Each operation is refused on a ground exactly when that ground holds and no earlier one does, and succeeds exactly when
 -- none holds; 13 and 14 are refused with the place of the first quantity above its bound, of the first row that is broken
 -- (01, 'How each operation refuses').
+use Rattle.std.specs.Prelude.{Ok, Err}
 use Rattle.std.specs.Prelude.{List, ◌∷◌, ◌++◌, ◌↔◌, ◌≡◌, ℕ, ◌+◌, ◌<◌, ◌≤◌, ℤ, length}
 use Rattle.arith.specs.Sums.{Each}
 use Rattle.market.specs.declared.Refusal.{Refusal}
 use Rattle.market.specs.declared.Refusal.TheVariants.{AboveBound, RowBroken}
-use Rattle.market.specs.declared.CaseAnswer.TheVariants as C
-use Rattle.market.specs.declared.Outcome.TheVariants as O
-use Rattle.market.specs.declared.Delivery.TheVariants as D
-use Rattle.market.specs.declared.Transfer.TheVariants as W
 use Rattle.market.specs.Case.{Case}
 use Rattle.market.specs.CaseFile.{case_of}
 use Rattle.market.specs.UpperBounds.{Quantity, quantities, Schedule, upper_bound}
@@ -21,7 +18,7 @@ use Rattle.market.specs.Program.{case_in, certificate_in, most_input, program_gr
 
 -- the program's text of an accepted certificate
 abbrev pub accepted_text : List ℕ → List ℕ → List ℕ
-accepted_text b q = report (case_of b) (certificate_of q) (O.Accepted (valuation (case_of b) (certificate_of q)))
+accepted_text b q = report (case_of b) (certificate_of q) (Ok (valuation (case_of b) (certificate_of q)))
 
 -- an operation with these grounds, its answer, what it answers on a refusal, and what on success
 pub record Exactly {A : Type 0} (gs : List Finding) (answer : A) (refused : Refusal → A) (success : A) : Type 0 where
@@ -67,18 +64,18 @@ pub record PlacesExactly {A : Type 0} (b q : List ℕ) (answer : A) (refused : R
   pub row_broken : (at : ℕ) → (answer ≡ refused (RowBroken at)) ↔ RowBrokenAt b q at
 
 pub record RefusedExactly : Type 0 where
-  pub case_check : (b : List ℕ) → Exactly (case_grounds b) (case_answer b) C.Refused C.Valid
-  pub certificate_check : (b q : List ℕ) → Exactly (grounds b q) (outcome b q) O.Refused (O.Accepted (valuation (case_of b) (certificate_of q)))
-  pub price_call : (b q : List ℕ) (n : ℕ) → Exactly (price_grounds b q n) (price_answer b q n) D.Refused D.Delivered
-  pub charge_call : (b q : List ℕ) (n : ℕ) → Exactly (charge_grounds b q n) (charge_answer b q n) D.Refused D.Delivered
-  pub case_reading : (b : List ℕ) (n : ℕ) → Exactly (read_case_grounds b n) (read_case b n) W.Refused (W.Written (length (case_numbers b)))
-  pub certificate_reading : (q : List ℕ) (n : ℕ) → Exactly (read_certificate_grounds q n) (read_certificate q n) W.Refused (W.Written (length (certificate_numbers q)))
-  pub case_writing : (vs : List ℤ) (n : ℕ) → Exactly (write_case_grounds vs n) (write_case vs n) W.Refused (W.Written (length (case_file vs)))
-  pub certificate_writing : (vs : List ℤ) (n : ℕ) → Exactly (write_certificate_grounds vs n) (write_certificate vs n) W.Refused (W.Written (length (certificate_file vs)))
+  pub case_check : (b : List ℕ) → Exactly (case_grounds b) (case_answer b) Err (Ok tt)
+  pub certificate_check : (b q : List ℕ) → Exactly (grounds b q) (outcome b q) Err (Ok (valuation (case_of b) (certificate_of q)))
+  pub price_call : (b q : List ℕ) (n : ℕ) → Exactly (price_grounds b q n) (price_answer b q n) Err (Ok tt)
+  pub charge_call : (b q : List ℕ) (n : ℕ) → Exactly (charge_grounds b q n) (charge_answer b q n) Err (Ok tt)
+  pub case_reading : (b : List ℕ) (n : ℕ) → Exactly (read_case_grounds b n) (read_case b n) Err (Ok (length (case_numbers b)))
+  pub certificate_reading : (q : List ℕ) (n : ℕ) → Exactly (read_certificate_grounds q n) (read_certificate q n) Err (Ok (length (certificate_numbers q)))
+  pub case_writing : (vs : List ℤ) (n : ℕ) → Exactly (write_case_grounds vs n) (write_case vs n) Err (Ok (length (case_file vs)))
+  pub certificate_writing : (vs : List ℤ) (n : ℕ) → Exactly (write_certificate_grounds vs n) (write_certificate vs n) Err (Ok (length (certificate_file vs)))
   -- the program's text; 17 comes before all others
   pub program : (input : List ℕ) → Exactly (program_grounds input) (printed input) refusal_line (accepted_text (case_in input) (certificate_in input))
   -- 13 and 14; the program's where 17 does not hold
-  pub certificate_places : (b q : List ℕ) → PlacesExactly b q (outcome b q) O.Refused
-  pub price_places : (b q : List ℕ) (n : ℕ) → PlacesExactly b q (price_answer b q n) D.Refused
-  pub charge_places : (b q : List ℕ) (n : ℕ) → PlacesExactly b q (charge_answer b q n) D.Refused
+  pub certificate_places : (b q : List ℕ) → PlacesExactly b q (outcome b q) Err
+  pub price_places : (b q : List ℕ) (n : ℕ) → PlacesExactly b q (price_answer b q n) Err
+  pub charge_places : (b q : List ℕ) (n : ℕ) → PlacesExactly b q (charge_answer b q n) Err
   pub program_places : (input : List ℕ) → length input ≤ most_input → PlacesExactly (case_in input) (certificate_in input) (printed input) refusal_line

@@ -1,9 +1,9 @@
 -- Numbers that were written are read back as themselves, and a valid file's numbers are written as that file's bytes
 -- (demand 2), of the definitions of the four operations.
+use Rattle.market.specs.declared.Refusal.{Refusal}
+use Rattle.std.specs.Prelude.{Result, Ok}
 use Rattle.std.specs.Prelude.{List, ◌++◌, ◌≡◌, ℕ, ◌+◌, ◌*◌, ◌<◌, ◌≤◌, length, take, drop, ℤ}
 use Rattle.arith.specs.Sums.{Each, total_of}
-use Rattle.market.specs.declared.Transfer.{Transfer}
-use Rattle.market.specs.declared.Transfer.TheVariants.{Written}
 use Rattle.market.specs.CaseFile.{case_size}
 use Rattle.market.specs.Certificate.{certificate_size}
 use Rattle.market.specs.Refusals.{Finding, AllClear}
@@ -16,15 +16,15 @@ AreBytes b = Each (λ v. v < 256) b
 -- of a file's reading and writing, each as its answer and the lent buffer afterwards
 pub record RoundTrip
     (valid : List ℕ → List Finding) (numbers : List ℕ → List ℤ)
-    (reading : List ℕ → ℕ → Transfer) (readBuffer : List ℕ → List ℤ → List ℤ)
-    (writing : List ℤ → ℕ → Transfer) (writeBuffer : List ℤ → List ℕ → List ℕ) : Type 0 where
+    (reading : List ℕ → ℕ → Result ℕ Refusal) (readBuffer : List ℕ → List ℤ → List ℤ)
+    (writing : List ℤ → ℕ → Result ℕ Refusal) (writeBuffer : List ℤ → List ℕ → List ℕ) : Type 0 where
   -- the n bytes that were written, read into a buffer that is long enough
-  pub written_read : (vs : List ℤ) (out : List ℕ) (n : ℕ) → writing vs (length out) ≡ Written n → (buffer : List ℤ) → length vs ≤ length buffer →
-      (reading (take n (writeBuffer vs out)) (length buffer) ≡ Written (length vs))
+  pub written_read : (vs : List ℤ) (out : List ℕ) (n : ℕ) → writing vs (length out) ≡ Ok n → (buffer : List ℤ) → length vs ≤ length buffer →
+      (reading (take n (writeBuffer vs out)) (length buffer) ≡ Ok (length vs))
       × (readBuffer (take n (writeBuffer vs out)) buffer ≡ vs ++ drop (length vs) buffer)
   -- a valid file's numbers, written into a buffer that is long enough
   pub read_written : (b : List ℕ) → AreBytes b → AllClear (valid b) → (out : List ℕ) → length b ≤ length out →
-      (writing (numbers b) (length out) ≡ Written (length b))
+      (writing (numbers b) (length out) ≡ Ok (length b))
       × (writeBuffer (numbers b) out ≡ b ++ drop (length b) out)
 
 pub record RoundTrips : Type 0 where

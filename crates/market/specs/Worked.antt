@@ -1,11 +1,12 @@
 -- (a) to (l) of the worked interval, one list under one statement; LO of a self-schedule out of reach; each refusal number on its
 -- own ground; and the order of prices, charges and a printed line (01, 'Worked interval', 'How each operation refuses',
 -- 'Certificate, cost, bound, charges'; 02, request 6).
+use Rattle.market.specs.declared.Refusal.{Refusal}
+use Rattle.std.specs.Prelude.{Result}
 use Rattle.std.specs.Prelude.{Bool, true, false, ◌&&◌, List, [], ◌∷◌, ◌++◌, map, ℕ, ◌+◌, T, take, ℤ, pos, neg_ℤ}
 use Rattle.std.specs.Int.Signed.{le_z}
 use Rattle.arith.specs.Sums.{all}
 use Rattle.market.specs.declared.Availability.{Availability}
-use Rattle.market.specs.declared.CaseAnswer.{CaseAnswer}
 use Rattle.market.specs.declared.CheckResult.{CheckResult}
 use Rattle.market.specs.declared.Answer.{Answer}
 use Rattle.market.specs.declared.Count.{Count}
@@ -99,7 +100,7 @@ self_schedules =
     ∷ record { given = run (self_scheduled_to 80000 worked_k) worked_q; says = refused 14 14 }
     ∷ []
 
-abbrev pub numbered : CaseAnswer → List ℤ
+abbrev pub numbered : Result (Unit {0}) Refusal → List ℤ
 numbered answer = pos (case_number_of answer) ∷ []
 
 abbrev pub answered : Answer → List ℤ

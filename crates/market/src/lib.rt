@@ -2,13 +2,14 @@
 // The definitions of document 01 stand in specs/, what is proved of them in proofs/.
 #![tactic(auto)]
 
-ghost use Rattle.std.specs.Prelude.{◌≡◌, pos};
-ghost use Rattle.market.specs.Bits.{committed, available, active_schedule, on_line_supplemental, regulating_flag, spinning_flag, off_line_supplemental_flag, off_line_short_term_flag, emergency_maximum_flag, self_scheduled_flag, emergency_minimum_flag, on_line_short_term_flag, status_of, status_bits};
+ghost use Rattle.std.specs.Prelude.{◌≡◌, refl, ℤ, pos};
+ghost use Rattle.market.specs.Bits.{has, status_of, status_bits};
+ghost use Rattle.market.specs.Kinds.{kind_of};
 ghost use Rattle.market.specs.Availability.{on_line_figure, is_on_line};
 ghost use Rattle.market.specs.CaseFile.{flowgate_place, case_size};
 ghost use Rattle.market.specs.CaseCheck.{CountsWithin};
 ghost use Rattle.market.specs.Certificate.{amounts_place, certificate_size};
-ghost use Rattle.market.specs.Refusals.{number_of, place_of};
+ghost use Rattle.market.specs.Refusals.{number_of, place_of, answer_of, result_of, count_of};
 
 // ---- how many of each kind document 01 has: demand curves and the steps of one, energy steps and services of a resource
 pub const CURVES: usize = 4;
@@ -166,14 +167,136 @@ pub struct ShiftFactor(pub i64);
 #[derive(Clone, Copy, Drop)]
 pub struct Grains(pub i64);
 
+// What has a unit: a figure is a number, and each number is a figure.
+pub trait Unit: Copy {
+    ghost number: { Self → ℤ };
+
+    ghost of: { ℤ → Self };
+
+    fn of(figure: i64) -> Self
+        ensures { result ≡ of figure };
+
+    fn number(self) -> i64
+        ensures { result ≡ number self };
+
+    ghost number_of: { (v : ℤ) → number (of v) ≡ v };
+}
+
+impl Unit for Kw {
+    ghost number = { λ a. a.0 };
+
+    ghost of = { λ v. record { 0 = v } };
+
+    ghost number_of = { λ v. refl };
+
+    fn of(figure: i64) -> Kw {
+        Kw(figure)
+    }
+
+    fn number(self) -> i64 {
+        self.0
+    }
+}
+
+impl Unit for KwPerMinute {
+    ghost number = { λ a. a.0 };
+
+    ghost of = { λ v. record { 0 = v } };
+
+    ghost number_of = { λ v. refl };
+
+    fn of(figure: i64) -> KwPerMinute {
+        KwPerMinute(figure)
+    }
+
+    fn number(self) -> i64 {
+        self.0
+    }
+}
+
+impl Unit for Cents {
+    ghost number = { λ a. a.0 };
+
+    ghost of = { λ v. record { 0 = v } };
+
+    ghost number_of = { λ v. refl };
+
+    fn of(figure: i64) -> Cents {
+        Cents(figure)
+    }
+
+    fn number(self) -> i64 {
+        self.0
+    }
+}
+
+impl Unit for Millicents {
+    ghost number = { λ a. a.0 };
+
+    ghost of = { λ v. record { 0 = v } };
+
+    ghost number_of = { λ v. refl };
+
+    fn of(figure: i64) -> Millicents {
+        Millicents(figure)
+    }
+
+    fn number(self) -> i64 {
+        self.0
+    }
+}
+
+impl Unit for Watts {
+    ghost number = { λ a. a.0 };
+
+    ghost of = { λ v. record { 0 = v } };
+
+    ghost number_of = { λ v. refl };
+
+    fn of(figure: i64) -> Watts {
+        Watts(figure)
+    }
+
+    fn number(self) -> i64 {
+        self.0
+    }
+}
+
+impl Unit for Grains {
+    ghost number = { λ a. a.0 };
+
+    ghost of = { λ v. record { 0 = v } };
+
+    ghost number_of = { λ v. refl };
+
+    fn of(figure: i64) -> Grains {
+        Grains(figure)
+    }
+
+    fn number(self) -> i64 {
+        self.0
+    }
+}
+
 // A resource's status bits; none above 8 is set. Only this crate makes one of a byte.
 #[derive(Clone, Copy, Drop)]
 pub struct Status(u8);
 
-#[derive(Clone, Copy, Drop)]
-pub enum StatusRead {
-    Bits(Status),
-    OutOfRange,
+// A byte that has a bit above 8.
+#[derive(Clone, Copy, Debug, PartialEq, Eq, Hash)]
+pub struct UnknownStatus(pub u8);
+
+impl TryFrom<u8> for Status {
+    type Error = UnknownStatus;
+
+    ghost try_from_gives = { λ bits r. r ≡ status_of bits };
+
+    fn try_from(bits: u8) -> Result<Status, UnknownStatus> {
+        if bits > Status::MOST.0 {
+            return Err(UnknownStatus(bits));
+        }
+        Ok(Status(bits))
+    }
 }
 
 impl Status {
@@ -187,15 +310,6 @@ impl Status {
 
     pub const MOST: Status = Status(15);
 
-    pub fn of(bits: u8) -> StatusRead
-        ensures { result ≡ status_of bits }
-    {
-        if bits > Status::MOST.0 {
-            return StatusRead::OutOfRange;
-        }
-        StatusRead::Bits(Status(bits))
-    }
-
     // The status bits of any byte; of a byte in range, all that it has.
     pub fn masked(byte: u8) -> Status
         ensures { result.0 ≡ status_bits byte }
@@ -203,28 +317,11 @@ impl Status {
         Status(byte % (Status::MOST.0 + 1))
     }
 
-    pub fn committed(self) -> bool
-        ensures { result ≡ committed self.0 }
+    // Whether the bit is set; none is set in no bit.
+    pub fn has(self, bit: Status) -> bool
+        ensures { result ≡ has bit.0 self.0 }
     {
-        self.0 / Status::COMMITTED.0 % 2 == 1
-    }
-
-    pub fn available(self) -> bool
-        ensures { result ≡ available self.0 }
-    {
-        self.0 / Status::AVAILABLE.0 % 2 == 1
-    }
-
-    pub fn active_schedule(self) -> bool
-        ensures { result ≡ active_schedule self.0 }
-    {
-        self.0 / Status::ACTIVE_SCHEDULE.0 % 2 == 1
-    }
-
-    pub fn on_line_supplemental(self) -> bool
-        ensures { result ≡ on_line_supplemental self.0 }
-    {
-        self.0 / Status::ON_LINE_SUPPLEMENTAL.0 % 2 == 1
+        bit.0 != 0 && self.0 / bit.0 % 2 == 1
     }
 }
 
@@ -249,63 +346,24 @@ impl Flags {
 
     pub const ON_LINE_SHORT_TERM: Flags = Flags(128);
 
-    pub fn of(bits: u8) -> Flags
-        ensures { result.0 ≡ bits }
+    // Whether the flag is set; none is set in no flag.
+    pub fn has(self, flag: Flags) -> bool
+        ensures { result ≡ has flag.0 self.0 }
     {
+        flag.0 != 0 && self.0 / flag.0 % 2 == 1
+    }
+}
+
+impl From<u8> for Flags {
+    ghost from_gives = { λ bits r. r.0 ≡ bits };
+
+    fn from(bits: u8) -> Flags {
         Flags(bits)
-    }
-
-    pub fn regulating(self) -> bool
-        ensures { result ≡ regulating_flag self.0 }
-    {
-        self.0 / Flags::REGULATING.0 % 2 == 1
-    }
-
-    pub fn spinning(self) -> bool
-        ensures { result ≡ spinning_flag self.0 }
-    {
-        self.0 / Flags::SPINNING.0 % 2 == 1
-    }
-
-    pub fn off_line_supplemental(self) -> bool
-        ensures { result ≡ off_line_supplemental_flag self.0 }
-    {
-        self.0 / Flags::OFF_LINE_SUPPLEMENTAL.0 % 2 == 1
-    }
-
-    pub fn off_line_short_term(self) -> bool
-        ensures { result ≡ off_line_short_term_flag self.0 }
-    {
-        self.0 / Flags::OFF_LINE_SHORT_TERM.0 % 2 == 1
-    }
-
-    pub fn emergency_maximum(self) -> bool
-        ensures { result ≡ emergency_maximum_flag self.0 }
-    {
-        self.0 / Flags::EMERGENCY_MAXIMUM.0 % 2 == 1
-    }
-
-    pub fn self_scheduled(self) -> bool
-        ensures { result ≡ self_scheduled_flag self.0 }
-    {
-        self.0 / Flags::SELF_SCHEDULED.0 % 2 == 1
-    }
-
-    pub fn emergency_minimum(self) -> bool
-        ensures { result ≡ emergency_minimum_flag self.0 }
-    {
-        self.0 / Flags::EMERGENCY_MINIMUM.0 % 2 == 1
-    }
-
-    pub fn on_line_short_term(self) -> bool
-        ensures { result ≡ on_line_short_term_flag self.0 }
-    {
-        self.0 / Flags::ON_LINE_SHORT_TERM.0 % 2 == 1
     }
 }
 
 // Whether a resource is on-line, off-line or tripped (01, 'Before the rows'; 02, request 2).
-#[derive(Clone, Copy, Drop)]
+#[derive(Clone, Copy, Debug, PartialEq, Eq, Hash)]
 pub enum Availability {
     OnLine,
     OffLine,
@@ -317,21 +375,40 @@ impl Availability {
     pub fn on_line(self) -> bool
         ensures { result ≡ is_on_line self }
     {
-        match self {
-            Availability::OnLine => true,
-            Availability::OffLine => false,
-            Availability::Tripped => false,
-        }
+        self == Availability::OnLine
     }
 
     // What the program prints for on-line.
     pub fn printed(self) -> i64
         ensures { result ≡ pos (on_line_figure self) }
     {
-        match self {
-            Availability::OnLine => 1,
-            Availability::OffLine => 0,
-            Availability::Tripped => 0,
+        i64::from(self.on_line())
+    }
+}
+
+// What a resource is (01, 'Before the rows').
+#[derive(Clone, Copy, Debug, PartialEq, Eq, Hash)]
+pub enum Kind {
+    Conventional,
+    Intermittent,
+    External,
+}
+
+// A byte that names no kind.
+#[derive(Clone, Copy, Debug, PartialEq, Eq, Hash)]
+pub struct UnknownKind(pub u8);
+
+impl TryFrom<u8> for Kind {
+    type Error = UnknownKind;
+
+    ghost try_from_gives = { λ byte r. r ≡ kind_of byte };
+
+    fn try_from(byte: u8) -> Result<Kind, UnknownKind> {
+        match byte {
+            1 => Ok(Kind::Conventional),
+            2 => Ok(Kind::Intermittent),
+            3 => Ok(Kind::External),
+            _ => Err(UnknownKind(byte)),
         }
     }
 }
@@ -351,22 +428,16 @@ pub struct Step {
     pub price: Cents,
 }
 
-#[derive(Clone, Copy, Drop)]
-pub struct OfferSteps {
-    pub of: [Step; ENERGY_STEPS],
-}
+pub type OfferSteps = [Step; ENERGY_STEPS];
 
-#[derive(Clone, Copy, Drop)]
-pub struct CurveSteps {
-    pub of: [Step; CURVE_STEPS],
-}
+pub type CurveSteps = [Step; CURVE_STEPS];
 
 // A resource's record, read by value. `trip` is the time since the last trip, 255 for none.
 #[derive(Clone, Copy, Drop)]
 pub struct State {
-    pub kind: u8,
+    pub kind: Result<Kind, UnknownKind>,
     pub zone: u8,
-    pub breaker: u8,
+    pub breaker_closed: bool,
     pub trip: Minutes,
     pub flags: Flags,
     pub output: Kw,
@@ -432,21 +503,18 @@ pub struct Terms {
     pub short_term: ReserveTerms,
 }
 
-// A zone's requirements, in the order of the demand curves.
+// A figure for each service of a resource.
 #[derive(Clone, Copy, Drop)]
-pub struct ZoneRequirements {
-    pub of: [Kw; 4],
+pub struct PerService<T> {
+    pub energy: T,
+    pub regulation: T,
+    pub contingency: T,
+    pub on_line_short_term: T,
+    pub off_line_short_term: T,
 }
 
 // What a certificate gives a resource.
-#[derive(Clone, Copy, Drop)]
-pub struct Amounts {
-    pub energy: Kw,
-    pub regulation: Kw,
-    pub contingency: Kw,
-    pub on_line_short_term: Kw,
-    pub off_line_short_term: Kw,
-}
+pub type Amounts = PerService<Kw>;
 
 // The prices of a resource's five rows.
 #[derive(Clone, Copy, Drop)]
@@ -458,26 +526,23 @@ pub struct LimitPrices {
     pub low: Millicents,
 }
 
-// A figure for each demand curve: cleared quantities, or what reserve rows sum to.
+// A figure for each demand curve.
 #[derive(Clone, Copy, Drop)]
-pub struct CurveAmounts {
-    pub operating: Kw,
-    pub regulating_plus_spinning: Kw,
-    pub regulating: Kw,
-    pub short_term: Kw,
+pub struct PerCurve<T> {
+    pub operating: T,
+    pub regulating_plus_spinning: T,
+    pub regulating: T,
+    pub short_term: T,
 }
+
+// Cleared quantities, a zone's requirements, or what reserve rows sum to.
+pub type CurveAmounts = PerCurve<Kw>;
 
 // The prices of the four reserve rows, market-wide or of a zone.
-#[derive(Clone, Copy, Drop)]
-pub struct ReservePrices {
-    pub operating: Millicents,
-    pub regulating_plus_spinning: Millicents,
-    pub regulating: Millicents,
-    pub short_term: Millicents,
-}
+pub type ReservePrices = PerCurve<Millicents>;
 
 // The grounds of refusal, in the order of their numbers; 13 with the quantity's place, 14 with the row's number.
-#[derive(Clone, Copy, Drop)]
+#[derive(Clone, Copy, Debug, PartialEq, Eq, Hash)]
 pub enum Refusal {
     CaseLength,
     CaseVersion,
@@ -527,23 +592,9 @@ impl Refusal {
         ensures { result ≡ place_of self }
     {
         match self {
-            Refusal::CaseLength => 0,
-            Refusal::CaseVersion => 0,
-            Refusal::Counts => 0,
-            Refusal::CaseSize => 0,
-            Refusal::FieldRange => 0,
-            Refusal::StepRule => 0,
-            Refusal::LimitPair => 0,
-            Refusal::CertificateLength => 0,
-            Refusal::CertificateVersion => 0,
-            Refusal::CountsDiffer => 0,
-            Refusal::CertificateSize => 0,
-            Refusal::PriceRange => 0,
             Refusal::AboveBound(place) => place,
             Refusal::RowBroken(row) => row,
-            Refusal::BufferShort => 0,
-            Refusal::NumberList => 0,
-            Refusal::InputLength => 0,
+            _ => 0,
         }
     }
 }
@@ -556,40 +607,8 @@ pub struct Valuation {
     pub gap: Grains,
 }
 
-// What a search for the first one that fails a test answers: its place, counted from 1, or that there is none.
-#[derive(Clone, Copy, Drop)]
-pub enum First {
-    None,
-    At(u32),
-}
-
-// The answer of the case check.
-#[derive(Clone, Copy, Drop)]
-pub enum CaseAnswer {
-    Valid,
-    Refused(Refusal),
-}
-
-// The answer of the certificate check.
-#[derive(Clone, Copy, Drop)]
-pub enum Outcome {
-    Accepted(Valuation),
-    Refused(Refusal),
-}
-
-// The answer of the calls for prices and charges: all numbers are written, or none.
-#[derive(Clone, Copy, Drop)]
-pub enum Delivery {
-    Delivered,
-    Refused(Refusal),
-}
-
-// The answer of reading into numbers and writing from them: how many numbers or bytes were written.
-#[derive(Clone, Copy, Drop)]
-pub enum Transfer {
-    Written(u32),
-    Refused(Refusal),
-}
+// The answer of the certificate check: cost, bound and gap, or the first ground that holds.
+pub type Outcome = Result<Valuation, Refusal>;
 
 // The answers as C hosts receive them. A refused one has every other field 0 but the place.
 #[repr(C)]
@@ -614,4 +633,61 @@ pub struct CheckResult {
 pub struct Count {
     pub refusal: u32,
     pub count: u32,
+}
+
+impl From<Result<(), Refusal>> for Answer {
+    ghost from_gives = { λ answer r. r ≡ answer_of answer };
+
+    fn from(answer: Result<(), Refusal>) -> Answer {
+        match answer {
+            Ok(()) => Answer {
+                refusal: 0,
+                place: 0,
+            },
+            Err(why) => Answer {
+                refusal: why.number(),
+                place: why.place(),
+            },
+        }
+    }
+}
+
+impl From<Outcome> for CheckResult {
+    ghost from_gives = { λ answer r. r ≡ result_of answer };
+
+    fn from(answer: Outcome) -> CheckResult {
+        match answer {
+            Ok(v) => CheckResult {
+                refusal: 0,
+                place: 0,
+                cost: v.cost.0,
+                bound: v.bound.0,
+                gap: v.gap.0,
+            },
+            Err(why) => CheckResult {
+                refusal: why.number(),
+                place: why.place(),
+                cost: 0,
+                bound: 0,
+                gap: 0,
+            },
+        }
+    }
+}
+
+impl From<Result<u32, Refusal>> for Count {
+    ghost from_gives = { λ answer r. r ≡ count_of answer };
+
+    fn from(answer: Result<u32, Refusal>) -> Count {
+        match answer {
+            Ok(n) => Count {
+                refusal: 0,
+                count: n,
+            },
+            Err(why) => Count {
+                refusal: why.number(),
+                count: 0,
+            },
+        }
+    }
 }

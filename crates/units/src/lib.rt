@@ -2,62 +2,34 @@
 // thousandths of a cent times kW is grains; so is a price in cents times thousandths of a kW.
 #![tactic(auto)]
 
-ghost use Rattle.std.specs.Prelude.{◌≡◌, pos, ◌+ℤ◌, ◌-ℤ◌, ◌*ℤ◌};
+ghost use Rattle.std.specs.Prelude.{◌≡◌, refl, map, ℤ, pos, ◌+◌, ◌≤◌, ◌+ℤ◌, ◌-ℤ◌, ◌*ℤ◌};
 ghost use Rattle.std.specs.Int.Signed.{le_z};
 ghost use Rattle.arith.specs.Sums.{min_ℤ};
 ghost use Rattle.market.specs.Records.{kw, watts, millicents, grains};
 ghost use Rattle.market.specs.Fits.{Fits64};
 ghost use Rattle.units.specs.Room.{SumRoom, ProductRoom};
+ghost use Rattle.units.specs.Search.{first_false, reaches, short_tests};
 
-use market::{Cents, Grains, Kw, Millicents, ShiftFactor, Watts};
+use market::{Cents, Grains, Kw, Millicents, PerCurve, ShiftFactor, Unit, Watts};
 
-pub fn kw_sum(a: Kw, b: Kw) -> Kw
-    requires { SumRoom a.0 b.0 }
-    ensures { result ≡ kw (a.0 +ℤ b.0) }
+pub fn sum<U: Unit>(a: U, b: U) -> U
+    requires { SumRoom (U.number a) (U.number b) }
+    ensures { result ≡ U.of (U.number a +ℤ U.number b) }
 {
-    Kw(a.0 + b.0)
+    U::of(a.number() + b.number())
 }
 
-pub fn kw_difference(a: Kw, b: Kw) -> Kw
-    requires { SumRoom a.0 b.0 }
-    ensures { result ≡ kw (a.0 -ℤ b.0) }
+pub fn difference<U: Unit>(a: U, b: U) -> U
+    requires { SumRoom (U.number a) (U.number b) }
+    ensures { result ≡ U.of (U.number a -ℤ U.number b) }
 {
-    Kw(a.0 - b.0)
+    U::of(a.number() - b.number())
 }
 
-pub fn watts_difference(a: Watts, b: Watts) -> Watts
-    requires { SumRoom a.0 b.0 }
-    ensures { result ≡ watts (a.0 -ℤ b.0) }
+pub fn at_least<U: Unit>(a: U, b: U) -> bool
+    ensures { result ≡ le_z (U.number b) (U.number a) }
 {
-    Watts(a.0 - b.0)
-}
-
-pub fn price_sum(a: Millicents, b: Millicents) -> Millicents
-    requires { SumRoom a.0 b.0 }
-    ensures { result ≡ millicents (a.0 +ℤ b.0) }
-{
-    Millicents(a.0 + b.0)
-}
-
-pub fn price_difference(a: Millicents, b: Millicents) -> Millicents
-    requires { SumRoom a.0 b.0 }
-    ensures { result ≡ millicents (a.0 -ℤ b.0) }
-{
-    Millicents(a.0 - b.0)
-}
-
-pub fn grains_sum(a: Grains, b: Grains) -> Grains
-    requires { SumRoom a.0 b.0 }
-    ensures { result ≡ grains (a.0 +ℤ b.0) }
-{
-    Grains(a.0 + b.0)
-}
-
-pub fn grains_difference(a: Grains, b: Grains) -> Grains
-    requires { SumRoom a.0 b.0 }
-    ensures { result ≡ grains (a.0 -ℤ b.0) }
-{
-    Grains(a.0 - b.0)
+    a.number() >= b.number()
 }
 
 // A price of thousandths of a cent times an amount.
@@ -98,22 +70,6 @@ pub fn in_watts(a: Kw) -> Watts
     Watts(1000 * a.0)
 }
 
-pub fn at_least(a: Kw, b: Kw) -> bool
-    ensures { result ≡ le_z b.0 a.0 }
-{
-    let x = a.0;
-    let y = b.0;
-    x >= y
-}
-
-pub fn watts_at_least(a: Watts, b: Watts) -> bool
-    ensures { result ≡ le_z b.0 a.0 }
-{
-    let x = a.0;
-    let y = b.0;
-    x >= y
-}
-
 // The lesser of 0 and a figure.
 pub fn negative_part(a: Grains) -> Grains
     requires { Fits64 a.0 }
@@ -124,4 +80,34 @@ pub fn negative_part(a: Grains) -> Grains
         return Grains(0);
     }
     Grains(x)
+}
+
+// The first pair whose first figure is less than its second, by its number, counted from `first`.
+pub fn first_below<const N: usize>(pairs: [(Kw, Kw); N], first: u32) -> Option<u32>
+    requires { first + N ≤ 4294967295 }
+    ensures { result ≡ first_false first (map reaches pairs.entry) }
+{
+    for k in 0..N {
+        let (have, need) = pairs[k];
+        if !at_least(have, need) {
+            return Some(first + k as u32);
+        }
+    }
+    None
+}
+
+// The first curve that has less than it needs, by its number, counted from `first`.
+pub fn first_short(have: PerCurve<Kw>, need: PerCurve<Kw>, first: u32) -> Option<u32>
+    requires { first ≤ 1000 }
+    ensures { result ≡ first_false first (short_tests have need) }
+{
+    first_below(
+        [
+            (have.operating, need.operating),
+            (have.regulating_plus_spinning, need.regulating_plus_spinning),
+            (have.regulating, need.regulating),
+            (have.short_term, need.short_term),
+        ],
+        first,
+    )
 }

@@ -1,5 +1,1 @@
-pub mod ByteOrder
-pub mod Half
-pub mod SignedBits
-pub mod Stores
 pub mod WholeCase

@@ -1,3 +1,2 @@
-pub mod ByteOrder
 pub mod Within
 pub mod CaseBytes
