@@ -9,7 +9,7 @@ use Rattle.wire.specs.CaseBytes.{CaseBytes}
 use Rattle.case_ranges.specs.Pieces.{curve_in_range, zone_in_range, resource_numbered_in_range}
 use Rattle.case_ranges.proofs.Places.{fields_in_turn}
 use Rattle.case_soundness.specs.Sound.{SoundResource}
-use Rattle.case_soundness.proofs.Tests.{all_below}
+use Rattle.arith.proofs.Ranges.{all_below}
 use Rattle.case_check.specs.Pieces.{curve_right, offer_right, limits_right}
 use Rattle.case_check.specs.Stages.{SoundCase}
 

@@ -2,34 +2,26 @@
 // (01, 'How each operation refuses'). `case_stage` is what the other operations start from.
 #![tactic(auto)]
 
-ghost use Rattle.std.specs.Prelude.{◌≡◌, ◌+◌, ◌*◌, ◌<◌, ◌≤◌, true, length, pos, ◌==◌, int_le, nat_le};
+ghost use Rattle.std.specs.Prelude.{◌≡◌, ◌+◌, ◌*◌, ◌<◌, ◌≤◌, true, length, pos, IfOk, ◌==◌, int_le, nat_le};
 ghost use Rattle.arith.specs.Sums.{upto, all};
-ghost use Rattle.market.specs.declared.Refusal.TheVariants.{FieldRange, StepRule, LimitPair};
 ghost use Rattle.market.specs.Bytes.{u8_at, u32_at, signed, within};
 ghost use Rattle.market.specs.Case.{energy_steps, width_of, curves, curve_numbered};
 ghost use Rattle.market.specs.CaseFile.{head_size, resource_size, case_size, resource_at, case_of};
 ghost use Rattle.market.specs.CaseCheck.{CountsWithin, length_right, version_right, counts_right, fields_in_range, steps_follow, steps_rule, energy_steps_right, pairs_ordered, limits_ordered};
 ghost use Rattle.market.specs.Records.{counts_in};
-ghost use Rattle.market.specs.Refusals.{first_of};
+ghost use Rattle.market.specs.Refusals.{answered, first_of};
+ghost use Rattle.market.specs.Numbers.{field_grounds};
 ghost use Rattle.market.specs.Outcome.{case_grounds, case_answer};
 ghost use Rattle.wire.specs.Within.{Within};
 ghost use Rattle.wire.specs.CaseBytes.{CaseBytes};
 ghost use Rattle.case_ranges.specs.Pieces.{ResourcesIn};
-ghost use Rattle.case_check.specs.Stages.{stage_of, shape_of, grounds_of, Shaped, Staged, SoundCase};
+ghost use Rattle.case_check.specs.Stages.{shape_grounds, CaseBytesOf, SoundCase};
 ghost use Rattle.case_check.specs.Pieces.{offer_starts, offer_follows, offer_right, curve_starts, curve_follows, curve_right, limits_right};
 
 use market::{
-    CURVE_PRICES, CURVE_SIZE, CURVE_WIDTHS, CaseAnswer, Counts, HEAD_SIZE, MOST_FLOWGATES,
-    MOST_RESOURCES, MOST_ZONES, OFFER_PRICES, OFFER_WIDTHS, RESOURCE_SIZE, Refusal, STEP_SIZE,
-    ZONE_SIZE,
+    CURVE_PRICES, CURVE_SIZE, CURVE_WIDTHS, Counts, HEAD_SIZE, MOST_FLOWGATES, MOST_RESOURCES,
+    MOST_ZONES, OFFER_PRICES, OFFER_WIDTHS, RESOURCE_SIZE, Refusal, STEP_SIZE, ZONE_SIZE,
 };
-
-// What the stages so far have found: the counts of a file that has passed them, or the first ground that holds.
-#[derive(Clone, Copy, Drop)]
-pub enum Stage {
-    Passed(Counts),
-    Refused(Refusal),
-}
 
 // ---- 6: steps of width 0 come last, with price 0; prices keep their order; energy widths have a largest sum
 // A step after one of this width; `ordered` says whether their prices stand in their order.
@@ -75,14 +67,7 @@ fn offer_follows(b: &[u8], at: usize) -> bool
     requires { Within b.now at resource_size }
     ensures { result ≡ all (offer_follows (resource_at b.now at)) (upto 9) }
 {
-    let mut right = true;
-    let mut j: usize = 0;
-    while j < 9 {
-        let here = offer_step_follows(b, at, j);
-        right = here && right;
-        j += 1;
-    }
-    right
+    (0..9).fold(true, |right, j| right & offer_step_follows(b, at, j))
 }
 
 fn wide(x: u32) -> u64
@@ -96,39 +81,26 @@ fn offer_width(b: &[u8], at: usize) -> u64
     ensures { result ≡ width_of (resource_at b.now at).step_width energy_steps }
 {
     let mut sum: u64 = 0;
-    let mut j: usize = 0;
-    while j < 10 {
+    for j in 0..10 {
         sum += wide(wire::u32_at(b, at + OFFER_WIDTHS + j * STEP_SIZE));
-        j += 1;
     }
     sum
 }
 
+#[tactic(auto, unfolding(market::specs::CaseCheck::energy_steps_right, market::specs::CaseCheck::steps_right))]
 fn offer_right(b: &[u8], at: usize) -> bool
     requires { Within b.now at resource_size }
     ensures { result ≡ energy_steps_right (resource_at b.now at) }
 {
-    if !offer_starts(b, at) {
-        return false;
-    }
-    if !offer_follows(b, at) {
-        return false;
-    }
-    offer_width(b, at) <= 2000000
+    offer_starts(b, at) && offer_follows(b, at) && offer_width(b, at) <= 2000000
 }
 
 fn offers_right(b: &[u8], resources: usize, zones: usize) -> bool
     requires { ResourcesIn b.now resources zones }
     ensures { result ≡ all (offer_right (case_of b.now)) (upto resources) }
 {
-    let mut i: usize = 0;
-    while i < resources {
-        if !offer_right(b, HEAD_SIZE + zones * ZONE_SIZE + i * RESOURCE_SIZE) {
-            return false;
-        }
-        i += 1;
-    }
-    true
+    let first = HEAD_SIZE + zones * ZONE_SIZE;
+    (0..resources).all(|i| offer_right(b, first + i * RESOURCE_SIZE))
 }
 
 // Of the curve of this number.
@@ -156,50 +128,30 @@ fn curve_follows(b: &[u8], curve: usize) -> bool
     requires { (Within b.now 0 head_size) × (curve < 4) }
     ensures { result ≡ all (curve_follows (case_of b.now) (curve_numbered curve)) (upto 3) }
 {
-    let mut j: usize = 0;
-    while j < 3 {
-        if !curve_step_follows(b, curve, j) {
-            return false;
-        }
-        j += 1;
-    }
-    true
+    (0..3).all(|j| curve_step_follows(b, curve, j))
 }
 
+#[tactic(auto, unfolding(market::specs::CaseCheck::steps_right))]
 fn curve_right(b: &[u8], curve: usize) -> bool
     requires { (Within b.now 0 head_size) × (curve < 4) }
     ensures { result ≡ curve_right (case_of b.now) (curve_numbered curve) }
 {
-    if !curve_starts(b, curve) {
-        return false;
-    }
-    curve_follows(b, curve)
+    curve_starts(b, curve) && curve_follows(b, curve)
 }
 
 fn curves_right(b: &[u8]) -> bool
     requires { Within b.now 0 head_size }
     ensures { result ≡ all (curve_right (case_of b.now)) curves }
 {
-    let mut curve: usize = 0;
-    while curve < 4 {
-        if !curve_right(b, curve) {
-            return false;
-        }
-        curve += 1;
-    }
-    true
+    (0..4).all(|curve| curve_right(b, curve))
 }
 
+#[tactic(auto, unfolding(market::specs::CaseCheck::steps_rule, market::specs::CaseFile::case_of))]
 fn steps_right(b: &[u8], n: Counts) -> bool
     requires { CaseBytes b.now n.resources n.zones n.flowgates }
     ensures { result ≡ steps_rule (case_of b.now) }
 {
-    let resources = n.resources;
-    let zones = n.zones;
-    if !curves_right(b) {
-        return false;
-    }
-    offers_right(b, resources, zones)
+    curves_right(b) && offers_right(b, n.resources, n.zones)
 }
 
 // ---- 7: no minimum above its maximum
@@ -210,53 +162,38 @@ fn ordered(b: &[u8], low: usize, high: usize) -> bool
     wire::u32_at(b, low) <= wire::u32_at(b, high)
 }
 
+#[tactic(auto, unfolding(market::specs::CaseCheck::pairs_ordered, market::specs::CaseFile::resource_at))]
 fn pairs_ordered(b: &[u8], at: usize) -> bool
     requires { Within b.now at resource_size }
     ensures { result ≡ pairs_ordered (resource_at b.now at) }
 {
     // economic, regulating, emergency
-    if !ordered(b, at + 10, at + 14) {
-        return false;
-    }
-    if !ordered(b, at + 18, at + 22) {
-        return false;
-    }
-    ordered(b, at + 26, at + 30)
+    ordered(b, at + 10, at + 14) && ordered(b, at + 18, at + 22) && ordered(b, at + 26, at + 30)
 }
 
 fn limits_right(b: &[u8], resources: usize, zones: usize) -> bool
     requires { ResourcesIn b.now resources zones }
     ensures { result ≡ all (limits_right (case_of b.now)) (upto resources) }
 {
-    let mut i: usize = 0;
-    while i < resources {
-        if !pairs_ordered(b, HEAD_SIZE + zones * ZONE_SIZE + i * RESOURCE_SIZE) {
-            return false;
-        }
-        i += 1;
-    }
-    true
+    let first = HEAD_SIZE + zones * ZONE_SIZE;
+    (0..resources).all(|i| pairs_ordered(b, first + i * RESOURCE_SIZE))
 }
 
 fn limits_ordered(b: &[u8], n: Counts) -> bool
     requires { CaseBytes b.now n.resources n.zones n.flowgates }
     ensures { result ≡ limits_ordered (case_of b.now) }
 {
-    let resources = n.resources;
-    let zones = n.zones;
-    limits_right(b, resources, zones)
+    limits_right(b, n.resources, n.zones)
 }
 
 // ---- 1 to 4: the file's shape
 // 1, and 8 of a certificate: at least so many bytes, and as many as the length field says.
+#[tactic(auto, unfolding(market::specs::CaseCheck::length_right))]
 pub fn length_right(b: &[u8], least: usize) -> bool
     requires { 4 ≤ least }
     ensures { result ≡ length_right least b.now }
 {
-    if b.len() < least {
-        return false;
-    }
-    wide(wire::u32_at(b, 0)) + 4 == b.len() as u64
+    b.len() >= least && u64::from(wire::u32_at(b, 0)) + 4 == b.len() as u64
 }
 
 pub fn version_right(b: &[u8]) -> bool
@@ -290,16 +227,13 @@ fn count_right(count: usize, least: usize, most: usize) -> bool
     least <= count && count <= most
 }
 
+#[tactic(auto, unfolding(market::specs::CaseCheck::counts_right))]
 pub fn counts_right(n: Counts) -> bool
     ensures { result ≡ counts_right n.resources n.zones n.flowgates }
 {
-    if !count_right(n.resources, 1, MOST_RESOURCES) {
-        return false;
-    }
-    if !count_right(n.zones, 1, MOST_ZONES) {
-        return false;
-    }
-    count_right(n.flowgates, 0, MOST_FLOWGATES)
+    count_right(n.resources, 1, MOST_RESOURCES)
+        && count_right(n.zones, 1, MOST_ZONES)
+        && count_right(n.flowgates, 0, MOST_FLOWGATES)
 }
 
 fn size_right(b: &[u8], n: Counts) -> bool
@@ -311,84 +245,51 @@ fn size_right(b: &[u8], n: Counts) -> bool
 
 // ---- the stages
 // 1 to 4.
-fn shape_stage(b: &[u8]) -> Stage
-    ensures { (result ≡ shape_of b.now) × Shaped b.now result }
+#[tactic(auto, unfolding(crate::specs::Stages::shape_grounds, market::specs::Refusals::first_of, market::specs::CaseCheck::case_size_right))]
+fn shape_stage(b: &[u8]) -> Result<Counts, Refusal>
+    ensures answer { result ≡ answered (counts_in (case_of b.now)) (first_of (shape_grounds b.now)) }
+    ensures shaped { IfOk result (CaseBytesOf b.now) }
 {
     if !length_right(b, HEAD_SIZE) {
-        return Stage::Refused(Refusal::CaseLength);
+        return Err(Refusal::CaseLength);
     }
     if !version_right(b) {
-        return Stage::Refused(Refusal::CaseVersion);
+        return Err(Refusal::CaseVersion);
     }
     let n = counts_at(b);
     if !counts_right(n) {
-        return Stage::Refused(Refusal::Counts);
+        return Err(Refusal::Counts);
     }
     if !size_right(b, n) {
-        return Stage::Refused(Refusal::CaseSize);
+        return Err(Refusal::CaseSize);
     }
-    Stage::Passed(n)
-}
-
-// 5.
-fn ranges_stage(b: &[u8], earlier: Stage) -> Stage
-    requires { Shaped b.now earlier }
-    ensures { Staged b.now earlier (fields_in_range (case_of b.now)) FieldRange result }
-{
-    let Stage::Passed(n) = earlier else {
-        return earlier;
-    };
-    if !case_ranges::fields_in_range(b, n) {
-        return Stage::Refused(Refusal::FieldRange);
-    }
-    Stage::Passed(n)
-}
-
-// 6.
-fn steps_stage(b: &[u8], earlier: Stage) -> Stage
-    requires { Shaped b.now earlier }
-    ensures { Staged b.now earlier (steps_rule (case_of b.now)) StepRule result }
-{
-    let Stage::Passed(n) = earlier else {
-        return earlier;
-    };
-    if !steps_right(b, n) {
-        return Stage::Refused(Refusal::StepRule);
-    }
-    Stage::Passed(n)
-}
-
-// 7.
-fn limits_stage(b: &[u8], earlier: Stage) -> Stage
-    requires { Shaped b.now earlier }
-    ensures { Staged b.now earlier (limits_ordered (case_of b.now)) LimitPair result }
-{
-    let Stage::Passed(n) = earlier else {
-        return earlier;
-    };
-    if !limits_ordered(b, n) {
-        return Stage::Refused(Refusal::LimitPair);
-    }
-    Stage::Passed(n)
+    Ok(n)
 }
 
 // 5 to 7, one after the other.
-fn grounds_stage(b: &[u8], shape: Stage) -> Stage
-    requires { Shaped b.now shape }
-    ensures { result ≡ grounds_of (case_of b.now) shape }
+#[tactic(auto, unfolding(market::specs::Refusals::first_of))]
+fn grounds_stage(b: &[u8], n: Counts) -> Result<Counts, Refusal>
+    requires { CaseBytes b.now n.resources n.zones n.flowgates }
+    ensures { result ≡ answered n (first_of (field_grounds b.now)) }
 {
-    let steps = steps_stage(b, ranges_stage(b, shape));
-    limits_stage(b, steps)
+    if !case_ranges::fields_in_range(b, n) {
+        return Err(Refusal::FieldRange);
+    }
+    if !steps_right(b, n) {
+        return Err(Refusal::StepRule);
+    }
+    if !limits_ordered(b, n) {
+        return Err(Refusal::LimitPair);
+    }
+    Ok(n)
 }
 
-// 5 to 7 at once. True says that all pass; false says nothing: the stages above then find the ground.
+// 5 to 7 at once. True says that all pass; false says nothing: the stages above then find the ground. With `&&` in place of the ways
+// out it is no plainer: its proof then takes each branch by itself, since a test that is true is all that says something.
 fn sound(b: &[u8], n: Counts) -> bool
     requires { CaseBytes b.now n.resources n.zones n.flowgates }
     ensures { result ≡ true → SoundCase (case_of b.now) }
 {
-    let resources = n.resources;
-    let zones = n.zones;
-    let flowgates = n.flowgates;
     if !case_ranges::at_most(b, 8, 128000000) {
         return false;
     }
@@ -401,35 +302,34 @@ fn sound(b: &[u8], n: Counts) -> bool
     if !curves_right(b) {
         return false;
     }
-    if !case_ranges::zones_in_range(b, zones) {
+    if !case_ranges::zones_in_range(b, n.zones) {
         return false;
     }
-    if !case_soundness::resources_sound(b, resources, zones) {
+    if !case_soundness::resources_sound(b, n.resources, n.zones) {
         return false;
     }
-    case_ranges::flowgates_in_range(b, resources, zones, flowgates)
+    case_ranges::flowgates_in_range(b, n.resources, n.zones, n.flowgates)
 }
 
 // 1 to 7: the counts of a valid case, or the first ground that holds.
-pub fn case_stage(b: &[u8]) -> Stage
-    ensures { result ≡ stage_of (counts_in (case_of b.now)) (first_of (case_grounds b.now)) }
+pub fn case_stage(b: &[u8]) -> Result<Counts, Refusal>
+    ensures { result ≡ answered (counts_in (case_of b.now)) (first_of (case_grounds b.now)) }
 {
+    // a stage's answer is taken apart by let else, the refusal returned (01, 'Where each form belongs')
     let shape = shape_stage(b);
-    let Stage::Passed(n) = shape else {
+    let Ok(n) = shape else {
         return shape;
     };
     if sound(b, n) {
         return shape;
     }
-    grounds_stage(b, shape)
+    grounds_stage(b, n)
 }
 
-pub fn check_case(b: &[u8]) -> CaseAnswer
+#[tactic(auto, unfolding(market::specs::Outcome::case_answer))]
+pub fn check_case(b: &[u8]) -> Result<(), Refusal>
     ensures { result ≡ case_answer b.now }
 {
-    let stage = case_stage(b);
-    let Stage::Refused(why) = stage else {
-        return CaseAnswer::Valid;
-    };
-    CaseAnswer::Refused(why)
+    case_stage(b)?;
+    Ok(())
 }

@@ -15,7 +15,7 @@ ghost use Rattle.case_ranges.specs.Pieces.{Halved, number_at_most, state_in_rang
 
 use market::{
     CURVE_PRICES, CURVE_SIZE, CURVE_WIDTHS, Counts, FACTOR_SIZE, FLOWGATE_HEAD_SIZE, HEAD_SIZE,
-    OFFER_PRICES, OFFER_WIDTHS, RESOURCE_SIZE, STEP_SIZE, Status, StatusRead, ZONE_SIZE,
+    OFFER_PRICES, OFFER_WIDTHS, RESOURCE_SIZE, STEP_SIZE, Status, ZONE_SIZE,
 };
 
 // A number in two's complement, of a width whose half range is `half`, is at most so much either way.
@@ -61,180 +61,117 @@ pub fn all_at_most(b: &[u8], at: usize, n: usize, most: u32) -> bool
     requires { Within b.now at (n * 4) }
     ensures { result ≡ all (number_at_most most b.now at) (upto n) }
 {
-    let mut k: usize = 0;
-    while k < n {
-        if !at_most(b, at + k * 4, most) {
-            return false;
-        }
-        k += 1;
-    }
-    true
+    (0..n).all(|k| at_most(b, at + k * 4, most))
 }
 
 // ---- a resource, whose 154 bytes stand at a place
+#[tactic(auto, unfolding(market::specs::CaseFile::resource_at))]
 pub fn state_in_range(b: &[u8], at: usize, zones: usize) -> bool
     requires { Within b.now at resource_size }
     ensures { result ≡ state_in_range zones (resource_at b.now at) }
 {
-    if !byte_between(b, at, 1, 3) {
-        return false;
-    }
-    if !byte_between(b, at + 1, 1, zones) {
-        return false;
-    }
-    if !byte_between(b, at + 2, 0, 1) {
-        return false;
-    }
-    let StatusRead::Bits(_) = Status::of(wire::u8_at(b, at + 3)) else {
-        return false;
-    };
-    word_either_way(b, at + 6, 2000000)
+    byte_between(b, at, 1, 3)
+        && byte_between(b, at + 1, 1, zones)
+        && byte_between(b, at + 2, 0, 1)
+        && Status::try_from(wire::u8_at(b, at + 3)).is_ok()
+        && word_either_way(b, at + 6, 2000000)
 }
 
 // The three pairs of limits; initial energy, the two off-line limits, self-schedule.
+#[tactic(auto, using(crate::proofs::Places::powers_runs))]
 fn powers_in_range(b: &[u8], at: usize) -> bool
     requires { Within b.now at resource_size }
     ensures { result ≡ all (within 0 2000000) (powers (resource_at b.now at)) }
 {
-    if !all_at_most(b, at + 10, 6, 2000000) {
-        return false;
-    }
-    all_at_most(b, at + 46, 4, 2000000)
+    all_at_most(b, at + 10, 6, 2000000) && all_at_most(b, at + 46, 4, 2000000)
 }
 
+#[tactic(auto, unfolding(market::specs::CaseFile::resource_at))]
 fn offer_step_in_range(b: &[u8], at: usize, j: usize) -> bool
     requires { (Within b.now at resource_size) × (j < energy_steps) }
     ensures { result ≡ offer_step_in_range (resource_at b.now at) j }
 {
-    if !at_most(b, at + OFFER_WIDTHS + j * STEP_SIZE, 2000000) {
-        return false;
-    }
-    word_either_way(b, at + OFFER_PRICES + j * STEP_SIZE, 400000)
+    at_most(b, at + OFFER_WIDTHS + j * STEP_SIZE, 2000000)
+        && word_either_way(b, at + OFFER_PRICES + j * STEP_SIZE, 400000)
 }
 
 fn offer_in_range(b: &[u8], at: usize) -> bool
     requires { Within b.now at resource_size }
     ensures { result ≡ all (offer_step_in_range (resource_at b.now at)) (upto energy_steps) }
 {
-    let mut j: usize = 0;
-    while j < 10 {
-        if !offer_step_in_range(b, at, j) {
-            return false;
-        }
-        j += 1;
-    }
-    true
+    (0..10).all(|j| offer_step_in_range(b, at, j))
 }
 
+#[tactic(auto, using(crate::proofs::Places::ramps_run, crate::proofs::Places::prices_run), unfolding(market::specs::CaseCheck::resource_in_range))]
 fn resource_in_range(b: &[u8], at: usize, zones: usize) -> bool
     requires { Within b.now at resource_size }
     ensures { result ≡ resource_in_range zones (resource_at b.now at) }
 {
-    if !state_in_range(b, at, zones) {
-        return false;
-    }
-    if !powers_in_range(b, at) {
-        return false;
-    }
-    // ramps, then reserve prices
-    if !all_at_most(b, at + 34, 3, 400000) {
-        return false;
-    }
-    if !all_at_most(b, at + 62, 3, 400000) {
-        return false;
-    }
-    offer_in_range(b, at)
+    // ramps stand at 34, reserve prices at 62
+    state_in_range(b, at, zones)
+        && powers_in_range(b, at)
+        && all_at_most(b, at + 34, 3, 400000)
+        && all_at_most(b, at + 62, 3, 400000)
+        && offer_in_range(b, at)
 }
 
-// Their places count, not the resources: so the tests of all fields have one number to keep.
 fn resources_in_range(b: &[u8], resources: usize, zones: usize) -> bool
     requires { ResourcesIn b.now resources zones }
     ensures { result ≡ all (resource_numbered_in_range (case_of b.now)) (upto resources) }
 {
-    let end = HEAD_SIZE + zones * ZONE_SIZE + resources * RESOURCE_SIZE;
-    let mut at = HEAD_SIZE + zones * ZONE_SIZE;
-    while at < end {
-        if !resource_in_range(b, at, zones) {
-            return false;
-        }
-        at += RESOURCE_SIZE;
-    }
-    true
+    let first = HEAD_SIZE + zones * ZONE_SIZE;
+    (0..resources).all(|i| resource_in_range(b, first + i * RESOURCE_SIZE, zones))
 }
 
 // ---- market-wide figures
 // Multiplier and minutes of a reserve stand at `pair`, its largest share and its market requirement at their own places.
+#[tactic(auto, unfolding(market::specs::CaseCheck::reserve_in_range, market::specs::CaseFile::case_of))]
 fn reserve_in_range(b: &[u8], pair: usize, share: usize, requirement: usize) -> bool
     requires { (Within b.now pair 4) × (Within b.now share 2) × (Within b.now requirement 4) }
     ensures { (p : Reserve) → ReserveAt p pair share requirement → result ≡ reserve_in_range (case_of b.now) p }
 {
-    if !short_between(b, pair, 1, 5000) {
-        return false;
-    }
-    if !short_between(b, pair + 2, 1, 60) {
-        return false;
-    }
-    if !short_between(b, share, 0, 1000) {
-        return false;
-    }
-    at_most(b, requirement, 8000000)
+    short_between(b, pair, 1, 5000)
+        && short_between(b, pair + 2, 1, 60)
+        && short_between(b, share, 0, 1000)
+        && at_most(b, requirement, 8000000)
 }
 
 // Regulating, contingency, short-term.
+#[tactic(auto, unfolding(arith::specs::Sums::all))]
 pub fn reserves_in_range(b: &[u8]) -> bool
     requires { Within b.now 0 head_size }
     ensures { result ≡ all (reserve_in_range (case_of b.now)) reserves }
 {
-    if !reserve_in_range(b, 16, 24, 30) {
-        return false;
-    }
-    if !reserve_in_range(b, 12, 26, 34) {
-        return false;
-    }
-    reserve_in_range(b, 20, 28, 38)
+    reserve_in_range(b, 16, 24, 30)
+        && reserve_in_range(b, 12, 26, 34)
+        && reserve_in_range(b, 20, 28, 38)
 }
 
 // Of the curve of this number.
+#[tactic(auto, using(market::proofs::CurveNumbers::number_is), unfolding(market::specs::CaseFile::case_of))]
 fn curve_step_in_range(b: &[u8], curve: usize, j: usize) -> bool
     requires { (Within b.now 0 head_size) × (curve < length curves) × (j < curve_steps) }
     ensures { result ≡ curve_step_in_range (case_of b.now) (curve_numbered curve) j }
 {
-    if !at_most(
+    at_most(
         b,
         CURVE_WIDTHS + curve * CURVE_SIZE + j * STEP_SIZE,
         8000000,
-    ) {
-        return false;
-    }
-    at_most(b, CURVE_PRICES + curve * CURVE_SIZE + j * STEP_SIZE, 400000)
+    ) && at_most(b, CURVE_PRICES + curve * CURVE_SIZE + j * STEP_SIZE, 400000)
 }
 
 fn curve_in_range(b: &[u8], curve: usize) -> bool
     requires { (Within b.now 0 head_size) × (curve < length curves) }
     ensures { result ≡ curve_in_range (case_of b.now) (curve_numbered curve) }
 {
-    let mut j: usize = 0;
-    while j < 4 {
-        if !curve_step_in_range(b, curve, j) {
-            return false;
-        }
-        j += 1;
-    }
-    true
+    (0..4).all(|j| curve_step_in_range(b, curve, j))
 }
 
 pub fn curves_in_range(b: &[u8]) -> bool
     requires { Within b.now 0 head_size }
     ensures { result ≡ all (curve_in_range (case_of b.now)) curves }
 {
-    let mut curve: usize = 0;
-    while curve < 4 {
-        if !curve_in_range(b, curve) {
-            return false;
-        }
-        curve += 1;
-    }
-    true
+    (0..4).all(|curve| curve_in_range(b, curve))
 }
 
 // ---- zones and flowgates
@@ -242,14 +179,7 @@ pub fn zones_in_range(b: &[u8], zones: usize) -> bool
     requires { Within b.now head_size (zones * zone_size) }
     ensures { result ≡ all (zone_in_range (case_of b.now)) (upto zones) }
 {
-    let mut z: usize = 0;
-    while z < zones {
-        if !all_at_most(b, HEAD_SIZE + z * ZONE_SIZE, 4, 2000000) {
-            return false;
-        }
-        z += 1;
-    }
-    true
+    (0..zones).all(|z| all_at_most(b, HEAD_SIZE + z * ZONE_SIZE, 4, 2000000))
 }
 
 fn factor_in_range(b: &[u8], at: usize, i: usize) -> bool
@@ -268,69 +198,37 @@ fn factors_in_range(b: &[u8], at: usize, resources: usize) -> bool
     requires { Within b.now at (flowgate_size resources) }
     ensures { result ≡ all (factor_in_range b.now at) (upto resources) }
 {
-    let mut right = true;
-    let mut i: usize = 0;
-    while i < resources {
-        let here = factor_in_range(b, at, i);
-        right = here && right;
-        i += 1;
-    }
-    right
+    (0..resources).fold(true, |right, i| right & factor_in_range(b, at, i))
 }
 
 fn flowgate_in_range(b: &[u8], at: usize, resources: usize) -> bool
     requires { Within b.now at (flowgate_size resources) }
     ensures { result ≡ flowgate_in_range_at b.now at resources }
 {
-    if !word_either_way(b, at, 20000000) {
-        return false;
-    }
-    factors_in_range(b, at, resources)
+    word_either_way(b, at, 20000000) && factors_in_range(b, at, resources)
 }
 
 pub fn flowgates_in_range(b: &[u8], resources: usize, zones: usize, flowgates: usize) -> bool
     requires { CaseBytes b.now resources zones flowgates }
     ensures { result ≡ all (flowgate_in_range (case_of b.now)) (upto flowgates) }
 {
-    let mut f: usize = 0;
-    while f < flowgates {
-        if !flowgate_in_range(
-            b,
-            HEAD_SIZE
-                + zones * ZONE_SIZE
-                + resources * RESOURCE_SIZE
-                + f * (FLOWGATE_HEAD_SIZE + resources * FACTOR_SIZE),
-            resources,
-        ) {
-            return false;
-        }
-        f += 1;
-    }
-    true
+    (0..flowgates).all(|f| flowgate_in_range(
+        b,
+        market::flowgate_place(resources, zones, f),
+        resources,
+    ))
 }
 
 // ---- the whole file
+#[tactic(auto, unfolding(market::specs::CaseCheck::fields_in_range, market::specs::CaseFile::case_of))]
 pub fn fields_in_range(b: &[u8], n: Counts) -> bool
     requires { CaseBytes b.now n.resources n.zones n.flowgates }
     ensures { result ≡ fields_in_range (case_of b.now) }
 {
-    let resources = n.resources;
-    let zones = n.zones;
-    let flowgates = n.flowgates;
-    if !at_most(b, 8, 128000000) {
-        return false;
-    }
-    if !reserves_in_range(b) {
-        return false;
-    }
-    if !curves_in_range(b) {
-        return false;
-    }
-    if !zones_in_range(b, zones) {
-        return false;
-    }
-    if !resources_in_range(b, resources, zones) {
-        return false;
-    }
-    flowgates_in_range(b, resources, zones, flowgates)
+    at_most(b, 8, 128000000)
+        && reserves_in_range(b)
+        && curves_in_range(b)
+        && zones_in_range(b, n.zones)
+        && resources_in_range(b, n.resources, n.zones)
+        && flowgates_in_range(b, n.resources, n.zones, n.flowgates)
 }

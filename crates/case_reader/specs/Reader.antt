@@ -1,7 +1,7 @@
--- The reader that is made of lent case bytes and the case's three counts.
-use Rattle.std.specs.Prelude.{List, ℕ}
-use Rattle.std.specs.Borrow.{Bor}
+-- The case that a reader's bytes hold.
+use Rattle.market.specs.Case.{Case}
+use Rattle.market.specs.CaseFile.{case_of}
 use Rattle.case_reader.specs.declared.CaseReader.{CaseReader}
 
-abbrev pub reader_of : Bor (List ℕ) → ℕ → ℕ → ℕ → CaseReader
-reader_of b r z f = record { bytes = b; resources = r; zones = z; flowgates = f }
+abbrev pub case_in : CaseReader → Case
+case_in c = case_of c.bytes.now

@@ -3,11 +3,10 @@ use mathlib.Core.Path.{◌≡◌, refl}
 use mathlib.Core.List.{List}
 use Prim.Native.Nat.{ℕ, zero, suc, ◌<◌, ◌≤◌}
 use native.Mathlib.Omega.{arith}
-use lib.ListN.{get_or}
 use lib.IntN.{pos}
 use Rattle.market.specs.Case.{Case, Resource, Curve, Reserve, operating, regulating_plus_spinning, regulating, short_term}
 use Rattle.market.specs.CaseFile.{case_of}
-use Rattle.market.specs.Records.{offer_step_of, offer_steps_of, curve_step_of, curve_steps_of, state_of, output_limits_of, ramps_of, other_powers_of, reserve_offers_of, record_of, reserve_terms_of, zone_requirements_of, power}
+use Rattle.market.specs.Records.{offer_step_of, offer_steps_of, curve_step_of, curve_steps_of, state_of, output_limits_of, ramps_of, other_powers_of, reserve_offers_of, record_of, reserve_terms_of, zone_requirements_of}
 use Rattle.market.specs.Outcome.{Valid}
 use Rattle.market.proofs.Ranges.{CaseRanges, ResourceRanges, ReserveRanges, valid_ranges}
 use Rattle.case_records.specs.Ranged.{UpTo, offer_step, curve_step, RangedLimits, RangedRamps, RangedOtherPowers, RangedOffers, RangedSteps, Ranged, RangedTerms, RangedCurve, RangedZone}
@@ -116,14 +115,13 @@ curve_ranged {c} h k =
 
 pub zone_ranged : {c : Case} → CaseRanges c → (z : ℕ) → z < c.zones → RangedZone (zone_requirements_of c z)
 unfolding zone_requirements_of
-zone_ranged {c} h z l = record { requirement = at }
-  where
-    at : (k : ℕ) → k < 4 → UpTo (get_or (zone_requirements_of c z).of k (power 0)).0 2000000
-    at zero m = up_to (h.zone_requirement z operating l)
-    at (suc zero) m = up_to (h.zone_requirement z regulating_plus_spinning l)
-    at (suc (suc zero)) m = up_to (h.zone_requirement z regulating l)
-    at (suc (suc (suc zero))) m = up_to (h.zone_requirement z short_term l)
-    at (suc (suc (suc (suc k)))) m = absurd (omega arith)
+zone_ranged {c} h z l =
+    record {
+      operating = up_to (h.zone_requirement z operating l);
+      regulating_plus_spinning = up_to (h.zone_requirement z regulating_plus_spinning l);
+      regulating = up_to (h.zone_requirement z regulating l);
+      short_term = up_to (h.zone_requirement z short_term l);
+    }
 
 -- ---- of the bytes of a valid case
 module _ (b : List ℕ) (v : Valid b) where

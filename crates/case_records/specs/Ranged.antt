@@ -1,6 +1,6 @@
 -- What the records of a valid case are known to be, field by field, for arithmetic on them (01, 'The case file', ranges).
 -- Power in kW, ramps in kW a minute, prices in cents. That they hold of a valid case is shown in proofs/Ranged.antt.
-use Rattle.std.specs.Prelude.{◌≡◌, ℕ, ◌<◌, ◌≤◌, get_or, ℤ, pos, nat_abs}
+use Rattle.std.specs.Prelude.{◌≡◌, List, ℕ, ◌<◌, ◌≤◌, get_or, ℤ, pos, nat_abs}
 use Rattle.market.specs.Case.{energy_steps, curve_steps}
 use Rattle.market.specs.Records.{power, price}
 use Rattle.market.specs.declared.Resource.{Resource}
@@ -9,10 +9,9 @@ use Rattle.market.specs.declared.Ramps.{Ramps}
 use Rattle.market.specs.declared.OtherPowers.{OtherPowers}
 use Rattle.market.specs.declared.ReserveOffers.{ReserveOffers}
 use Rattle.market.specs.declared.ReserveTerms.{ReserveTerms}
-use Rattle.market.specs.declared.ZoneRequirements.{ZoneRequirements}
+use Rattle.market.specs.declared.PerCurve.{PerCurve}
+use Rattle.market.specs.declared.Kw.{Kw}
 use Rattle.market.specs.declared.Step.{Step}
-use Rattle.market.specs.declared.OfferSteps.{OfferSteps}
-use Rattle.market.specs.declared.CurveSteps.{CurveSteps}
 
 -- not negative, and at most so much
 pub record UpTo (v : ℤ) (most : ℕ) : Type 0 where
@@ -23,11 +22,11 @@ pub record UpTo (v : ℤ) (most : ℕ) : Type 0 where
 abbrev pub no_step : Step
 no_step = record { width = power 0; price = price 0 }
 
-abbrev pub offer_step : OfferSteps → ℕ → Step
-offer_step offered j = get_or offered.of j no_step
+abbrev pub offer_step : List Step → ℕ → Step
+offer_step offered j = get_or offered j no_step
 
-abbrev pub curve_step : CurveSteps → ℕ → Step
-curve_step curve j = get_or curve.of j no_step
+abbrev pub curve_step : List Step → ℕ → Step
+curve_step curve j = get_or curve j no_step
 
 pub record RangedLimits (limits : OutputLimits) : Type 0 where
   pub economic_min : UpTo limits.economic_min.0 2000000
@@ -54,7 +53,7 @@ pub record RangedOffers (offers : ReserveOffers) : Type 0 where
   pub off_line_short_term : UpTo offers.off_line_short_term.0 400000
 
 -- energy steps; their prices have a sign
-pub record RangedSteps (offered : OfferSteps) : Type 0 where
+pub record RangedSteps (offered : List Step) : Type 0 where
   pub width : (j : ℕ) → j < energy_steps → UpTo (offer_step offered j).width.0 2000000
   pub price : (j : ℕ) → j < energy_steps → nat_abs (offer_step offered j).price.0 ≤ 400000
 
@@ -73,9 +72,12 @@ pub record RangedTerms (terms : ReserveTerms) : Type 0 where
   pub share_to : terms.share.0 ≤ 1000
   pub requirement : UpTo terms.requirement.0 8000000
 
-pub record RangedCurve (curve : CurveSteps) : Type 0 where
+pub record RangedCurve (curve : List Step) : Type 0 where
   pub width : (j : ℕ) → j < curve_steps → UpTo (curve_step curve j).width.0 8000000
   pub price : (j : ℕ) → j < curve_steps → UpTo (curve_step curve j).price.0 400000
 
-pub record RangedZone (requirements : ZoneRequirements) : Type 0 where
-  pub requirement : (k : ℕ) → k < 4 → UpTo (get_or requirements.of k (power 0)).0 2000000
+pub record RangedZone (requirements : PerCurve Kw) : Type 0 where
+  pub operating : UpTo requirements.operating.0 2000000
+  pub regulating_plus_spinning : UpTo requirements.regulating_plus_spinning.0 2000000
+  pub regulating : UpTo requirements.regulating.0 2000000
+  pub short_term : UpTo requirements.short_term.0 2000000

@@ -4,6 +4,7 @@ use Rattle.std.proofs.Common.{◌≡◌, ℕ, zero, suc, ◌+◌, ◌-◌, ◌%�
 use native.Mathlib.Decide.{dec_lt}
 use lib.Signed.{le_z}
 use Rattle.arith.specs.Sums.{upto, all}
+use Rattle.arith.proofs.Ranges.{all_below}
 use Rattle.market.specs.Bytes.{signed, within, either_way}
 use Rattle.market.specs.Case.{width_of}
 use Rattle.market.specs.CaseCheck.{steps_follow, steps_right, never_falls}
@@ -11,17 +12,7 @@ use Rattle.case_ranges.specs.Pieces.{Halved}
 use Rattle.case_ranges.proofs.Halves.{at_bottom, at_top, zero_signed, shifted_order}
 use Rattle.case_ranges.proofs.Laws.{from_zero}
 use Rattle.case_soundness.specs.Ranks.{moved_of, rank_of}
-use Rattle.case_soundness.proofs.Tests.{both, all_below}
-
--- ---- a rank by its step's width
-pub rank_none : (w p m : ℕ) → w ≡ 0 → 800001 + p ≡ rank_of w p m
-unfolding rank_of
-rank_none w p m e = rw e
-
-pub rank_some : (w p m : ℕ) → (w ≡ 0 → ⊥) → m ≡ rank_of w p m
-unfolding rank_of
-rank_some zero p m h = absurd (h refl)
-rank_some (suc w) p m h = refl
+use Rattle.case_soundness.proofs.Tests.{both}
 
 -- ---- one step, and one behind another
 -- a price as the file's number of 32 bits, in range

@@ -1,1 +1,2 @@
 pub mod CertificateBytes
+pub mod Reader

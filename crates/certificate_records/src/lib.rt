@@ -10,103 +10,129 @@ ghost use Rattle.wire.specs.Within.{Within};
 ghost use Rattle.certificate_records.specs.CertificateBytes.{CertificateBytes, PricesFrom};
 
 use market::{
-    Amounts, CERTIFICATE_HEAD_SIZE, Cents, CurveAmounts, ENTRY_SIZE, FLOWGATE_PRICE_SIZE,
-    LimitPrices, Millicents, ReservePrices, ZONE_PRICES_SIZE,
+    Amounts, CERTIFICATE_HEAD_SIZE, Cents, CurveAmounts, FLOWGATE_PRICE_SIZE, LimitPrices,
+    Millicents, ReservePrices, ZONE_PRICES_SIZE,
 };
 
-// What resource i is given.
-pub fn amounts_at(q: &[u8], r: usize, z: usize, f: usize, i: usize) -> Amounts
-    requires { CertificateBytes q.now r z f × (i < r) }
-    ensures { result ≡ amounts_of (certificate_of q.now).amount i }
-{
-    let at = CERTIFICATE_HEAD_SIZE
-        + z * ZONE_PRICES_SIZE
-        + f * FLOWGATE_PRICE_SIZE
-        + i * ENTRY_SIZE;
-    Amounts {
-        energy: wire::kw_at(q, at),
-        regulation: wire::kw_at(q, at + 4),
-        contingency: wire::kw_at(q, at + 8),
-        on_line_short_term: wire::kw_at(q, at + 12),
-        off_line_short_term: wire::kw_at(q, at + 16),
-    }
+// The lent bytes of a certificate with its three counts.
+#[derive(Clone, Copy)]
+pub struct CertificateReader<'a> {
+    pub bytes: &'a [u8],
+    pub resources: usize,
+    pub zones: usize,
+    pub flowgates: usize,
+    pub ghost whole: { CertificateBytes bytes.now resources zones flowgates },
 }
 
-// The prices of resource i's own rows.
-pub fn limit_prices_at(q: &[u8], r: usize, z: usize, f: usize, i: usize) -> LimitPrices
-    requires { CertificateBytes q.now r z f × (i < r) }
-    ensures { result ≡ limit_prices_of (certificate_of q.now).price i }
-{
-    let at = CERTIFICATE_HEAD_SIZE
-        + z * ZONE_PRICES_SIZE
-        + f * FLOWGATE_PRICE_SIZE
-        + i * ENTRY_SIZE;
-    LimitPrices {
-        max_with_reserve: wire::millicents_at(q, at + 20),
-        max_with_short_term: wire::millicents_at(q, at + 24),
-        minimum: wire::millicents_at(q, at + 28),
-        high: wire::millicents_at(q, at + 32),
-        low: wire::millicents_at(q, at + 36),
-    }
-}
+impl<'a> CertificateReader<'a> {
+    ghost use Rattle.certificate_records.specs.Reader.{certificate_in};
 
-// The cleared quantities.
-pub fn cleared(q: &[u8], r: usize, z: usize, f: usize) -> CurveAmounts
-    requires { CertificateBytes q.now r z f }
-    ensures { result ≡ cleared_of (certificate_of q.now).amount }
-{
-    CurveAmounts {
-        operating: wire::kw_at(q, 8),
-        regulating_plus_spinning: wire::kw_at(q, 12),
-        regulating: wire::kw_at(q, 16),
-        short_term: wire::kw_at(q, 20),
+    pub fn new(bytes: &'a [u8], resources: usize, zones: usize, flowgates: usize) -> Self
+        requires { CertificateBytes bytes.now resources zones flowgates }
+        ensures bytes { result.bytes ≡ bytes.entry }
+        ensures resources { result.resources ≡ resources }
+        ensures zones { result.zones ≡ zones }
+        ensures flowgates { result.flowgates ≡ flowgates }
+    {
+        CertificateReader {
+            bytes,
+            resources,
+            zones,
+            flowgates,
+        }
+    }
+
+    // What resource i is given.
+    #[tactic(auto, unfolding(market::specs::Records::amounts_of, market::specs::Certificate::certificate_of, market::specs::Certificate::amount_at))]
+    pub fn amounts(&self, i: usize) -> Amounts
+        requires { i < self.now.resources }
+        ensures { result ≡ amounts_of (certificate_in self.now).amount i }
+    {
+        let at = market::amounts_place(self.zones, self.flowgates, i);
+        Amounts {
+            energy: wire::figure_at(self.bytes, at),
+            regulation: wire::figure_at(self.bytes, at + 4),
+            contingency: wire::figure_at(self.bytes, at + 8),
+            on_line_short_term: wire::figure_at(self.bytes, at + 12),
+            off_line_short_term: wire::figure_at(self.bytes, at + 16),
+        }
+    }
+
+    // The prices of resource i's own rows.
+    #[tactic(auto, unfolding(market::specs::Records::limit_prices_of, market::specs::Certificate::certificate_of, market::specs::Certificate::price_at))]
+    pub fn limit_prices(&self, i: usize) -> LimitPrices
+        requires { i < self.now.resources }
+        ensures { result ≡ limit_prices_of (certificate_in self.now).price i }
+    {
+        let at = market::amounts_place(self.zones, self.flowgates, i);
+        LimitPrices {
+            max_with_reserve: wire::figure_at(self.bytes, at + 20),
+            max_with_short_term: wire::figure_at(self.bytes, at + 24),
+            minimum: wire::figure_at(self.bytes, at + 28),
+            high: wire::figure_at(self.bytes, at + 32),
+            low: wire::figure_at(self.bytes, at + 36),
+        }
+    }
+
+    // The cleared quantities.
+    #[tactic(auto, unfolding(market::specs::Records::cleared_of, market::specs::Certificate::certificate_of, market::specs::Certificate::amount_at))]
+    pub fn cleared(&self) -> CurveAmounts
+        ensures { result ≡ cleared_of (certificate_in self.now).amount }
+    {
+        CurveAmounts {
+            operating: wire::figure_at(self.bytes, 8),
+            regulating_plus_spinning: wire::figure_at(self.bytes, 12),
+            regulating: wire::figure_at(self.bytes, 16),
+            short_term: wire::figure_at(self.bytes, 20),
+        }
+    }
+
+    // The prices of the market-wide reserve rows.
+    pub fn market_prices(&self) -> ReservePrices
+        ensures { result ≡ reserve_prices_of (certificate_in self.now).price market_row }
+    {
+        reserve_prices_at(self.bytes, 28)
+    }
+
+    // The prices of a zone's reserve rows, zones counted from 0.
+    pub fn zone_prices(&self, zone: usize) -> ReservePrices
+        requires { zone < self.now.zones }
+        ensures { result ≡ reserve_prices_of (certificate_in self.now).price (zone_row zone) }
+    {
+        reserve_prices_at(self.bytes, CERTIFICATE_HEAD_SIZE + zone * ZONE_PRICES_SIZE)
+    }
+
+    // The price of row 1.
+    #[tactic(auto, unfolding(market::specs::Certificate::certificate_of, market::specs::Certificate::price_at))]
+    pub fn balance_price(&self) -> Millicents
+        ensures { result ≡ millicents ((certificate_in self.now).price balance_row) }
+    {
+        wire::signed_figure_at(self.bytes, 24)
+    }
+
+    // The price of a flowgate's row, in cents, flowgates counted from 0.
+    #[tactic(auto, unfolding(market::specs::Certificate::certificate_of, market::specs::Certificate::price_at))]
+    pub fn flowgate_price(&self, flowgate: usize) -> Cents
+        requires { flowgate < self.now.flowgates }
+        ensures { result ≡ cents ((certificate_in self.now).price (flowgate_row flowgate)) }
+    {
+        wire::figure_at(
+            self.bytes,
+            CERTIFICATE_HEAD_SIZE + self.zones * ZONE_PRICES_SIZE + flowgate * FLOWGATE_PRICE_SIZE,
+        )
     }
 }
 
 // The prices of four rows, one for each curve, one behind the other.
+#[tactic(auto, unfolding(market::specs::Records::reserve_prices_of))]
 fn reserve_prices_at(q: &[u8], at: usize) -> ReservePrices
     requires { Within q.now at 16 }
     ensures { (row : Curve → Row) → PricesFrom q.now row at → result ≡ reserve_prices_of (certificate_of q.now).price row }
 {
     ReservePrices {
-        operating: wire::millicents_at(q, at),
-        regulating_plus_spinning: wire::millicents_at(q, at + 4),
-        regulating: wire::millicents_at(q, at + 8),
-        short_term: wire::millicents_at(q, at + 12),
+        operating: wire::figure_at(q, at),
+        regulating_plus_spinning: wire::figure_at(q, at + 4),
+        regulating: wire::figure_at(q, at + 8),
+        short_term: wire::figure_at(q, at + 12),
     }
-}
-
-// The prices of the market-wide reserve rows.
-pub fn market_prices(q: &[u8], r: usize, z: usize, f: usize) -> ReservePrices
-    requires { CertificateBytes q.now r z f }
-    ensures { result ≡ reserve_prices_of (certificate_of q.now).price market_row }
-{
-    reserve_prices_at(q, 28)
-}
-
-// The prices of a zone's reserve rows, zones counted from 0.
-pub fn zone_prices_at(q: &[u8], r: usize, z: usize, f: usize, zone: usize) -> ReservePrices
-    requires { CertificateBytes q.now r z f × (zone < z) }
-    ensures { result ≡ reserve_prices_of (certificate_of q.now).price (zone_row zone) }
-{
-    reserve_prices_at(q, CERTIFICATE_HEAD_SIZE + zone * ZONE_PRICES_SIZE)
-}
-
-// The price of row 1.
-pub fn balance_price(q: &[u8], r: usize, z: usize, f: usize) -> Millicents
-    requires { CertificateBytes q.now r z f }
-    ensures { result ≡ millicents ((certificate_of q.now).price balance_row) }
-{
-    wire::signed_millicents_at(q, 24)
-}
-
-// The price of a flowgate's row, in cents, flowgates counted from 0.
-pub fn flowgate_price_at(q: &[u8], r: usize, z: usize, f: usize, flowgate: usize) -> Cents
-    requires { CertificateBytes q.now r z f × (flowgate < f) }
-    ensures { result ≡ cents ((certificate_of q.now).price (flowgate_row flowgate)) }
-{
-    wire::cents_at(
-        q,
-        CERTIFICATE_HEAD_SIZE + z * ZONE_PRICES_SIZE + flowgate * FLOWGATE_PRICE_SIZE,
-    )
 }

@@ -1,33 +1,23 @@
--- Which element stands at a place of lists that are joined, or repeated, end to end.
+-- Which element stands at a place of lists that are repeated end to end.
 use mathlib.Core.Path.{◌≡◌, refl, sym, ◌∙◌, ap}
 use mathlib.Core.List.{List, [], ◌∷◌, ◌++◌}
 use Prim.Native.Nat.{ℕ, zero, suc, ◌+◌, ◌*◌, ◌-◌, ◌%◌, ◌<◌, ◌≤◌}
 use native.Mathlib.Nat.{not-suc-le-zero, le_of_suc-le-suc, mod-eq_of_lt, add-mod_left}
 use native.Mathlib.Decide.{dec_lt}
 use native.Mathlib.Omega.{arith}
-use lib.ListN.{length, get_or, get_or-append}
-use lib.Seq.{get_or-append-add}
+use lib.ListN.{length, get_or}
+use Rattle.std.proofs.lemmas.List.{get_or_append_left, get_or-append_right}
 use Rattle.arith.specs.Sums.{Each, across}
 
 module _ {A : Type 0} (d : A) where
-  -- in the first of two lists
-  pub entry_first : (xs ys : List A) (k : ℕ) → k < length xs → get_or (xs ++ ys) k d ≡ get_or xs k d
-  entry_first xs ys k h = get_or-append xs ys d k h
-
-  -- in the second
-  pub entry_later : (xs ys : List A) (n k : ℕ) → length xs ≡ n → n ≤ k → get_or (xs ++ ys) k d ≡ get_or ys (k - n) d
-  entry_later xs ys n k e h =
-      let place : k ≡ length xs + (k - n) = omega arith in
-      ap (λ (j : ℕ). get_or (xs ++ ys) j d) place ∙ get_or-append-add xs ys (k - n) d
-
   -- in a list before lists in which the remainder decides, too: by the remainder
   entry_again : (xs ys : List A) (k : ℕ) → (length xs ≤ k → get_or ys (k - length xs) d ≡ get_or xs ((k - length xs) % length xs) d) → Dec (k < length xs) → get_or (xs ++ ys) k d ≡ get_or xs (k % length xs) d
-  entry_again xs ys k later (yes l) = entry_first xs ys k l ∙ ap (λ (j : ℕ). get_or xs j d) (sym (mod-eq_of_lt l))
+  entry_again xs ys k later (yes l) = get_or_append_left xs ys d k l ∙ ap (λ (j : ℕ). get_or xs j d) (sym (mod-eq_of_lt l))
   entry_again xs ys k later (no l) =
       let m = length xs in
       let place : k ≡ length xs + (k - length xs) = omega arith in
       let same : (k - length xs) % length xs ≡ k % length xs = sym (ap (λ (j : ℕ). j % m) place ∙ add-mod_left m (k - m)) in
-      entry_later xs ys m k refl (omega arith) ∙ later (omega arith) ∙ ap (λ (j : ℕ). get_or xs j d) same
+      get_or-append_right xs ys m k d refl (omega arith) ∙ later (omega arith) ∙ ap (λ (j : ℕ). get_or xs j d) same
 
   -- in a list that is repeated once for each element of ns
   pub entry_repeated : (xs : List A) (ns : List ℕ) (k : ℕ) → k < length ns * length xs → get_or (across (λ i. xs) ns) k d ≡ get_or xs (k % length xs) d

@@ -3,10 +3,9 @@ use mathlib.Core.Path.{◌≡◌, ◌∙◌, ap}
 use mathlib.Core.List.{List, [], ◌∷◌, ◌++◌}
 use Prim.Native.Nat.{ℕ, ◌+◌, ◌<◌, ◌≤◌}
 use native.Mathlib.Nat.{add_assoc, add-zero}
-use native.Mathlib.Numerals.{add-one}
 use native.Mathlib.Omega.{arith}
 use lib.ListN.{length, get_or, take, drop, take-append-drop}
-use lib.Seq.{take-suc}
+use Rattle.std.proofs.lemmas.List.{take_more}
 use Rattle.arith.specs.Sums.{total_of}
 use Rattle.arith.proofs.NaturalSums.{total-append}
 use Rattle.market.specs.Numbers.{Field, u8, field_width, field_at, numbers_at}
@@ -18,12 +17,9 @@ numbers_append [] gs b p = rw (add-zero p)
 numbers_append (f ∷ fs) gs b p = rw (numbers_append fs gs b (p + field_width f), add_assoc p (field_width f) (total_of field_width fs))
 
 module _ (fs : List Field) (k : ℕ) (h : k < length fs) where
-  take_next : take (k + 1) fs ≡ take k fs ++ (get_or fs k u8 ∷ [])
-  take_next = ap (λ (j : ℕ). take j fs) (add-one k) ∙ take-suc fs k u8 h
-
   pub width_next : total_of field_width (take (k + 1) fs) ≡ total_of field_width (take k fs) + field_width (get_or fs k u8)
   unfolding total_of
-  width_next = ap (total_of field_width) take_next ∙ total-append field_width (take k fs) (get_or fs k u8 ∷ []) ∙ ap (λ (w : ℕ). total_of field_width (take k fs) + w) (add-zero (field_width (get_or fs k u8)))
+  width_next = ap (total_of field_width) (take_more fs k u8 h) ∙ total-append field_width (take k fs) (get_or fs k u8 ∷ []) ∙ ap (λ (w : ℕ). total_of field_width (take k fs) + w) (add-zero (field_width (get_or fs k u8)))
 
   -- the next field lies within them all
   pub width_within : total_of field_width (take k fs) + field_width (get_or fs k u8) ≤ total_of field_width fs
@@ -31,4 +27,4 @@ module _ (fs : List Field) (k : ℕ) (h : k < length fs) where
 
   pub numbers_next : (b : List ℕ) (p : ℕ) → numbers_at (take (k + 1) fs) b p ≡ numbers_at (take k fs) b p ++ (field_at (get_or fs k u8) b (p + total_of field_width (take k fs)) ∷ [])
   unfolding numbers_at
-  numbers_next b p = ap (λ (gs : List Field). numbers_at gs b p) take_next ∙ numbers_append (take k fs) (get_or fs k u8 ∷ []) b p
+  numbers_next b p = ap (λ (gs : List Field). numbers_at gs b p) (take_more fs k u8 h) ∙ numbers_append (take k fs) (get_or fs k u8 ∷ []) b p

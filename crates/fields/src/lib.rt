@@ -9,6 +9,8 @@ ghost use Rattle.market.specs.Numbers.{u8, field_width, field_low, field_high, f
 ghost use Rattle.wire.specs.Within.{Within};
 ghost use Rattle.fields.specs.Layout.{field_of, fields_of, head_numbers, resource_numbers, certificate_head_numbers};
 
+use market::Counts;
+
 // Unsigned or in two's complement, big-endian.
 #[derive(Clone, Copy, Drop)]
 pub enum Field {
@@ -19,56 +21,43 @@ pub enum Field {
     I32,
 }
 
-#[derive(Clone, Copy, Drop)]
-pub enum File {
-    Case,
-    Certificate,
-}
-
-// ---- one field
-pub fn width(field: Field) -> usize
-    ensures { result ≡ field_width (field_of field) }
-{
-    match field {
-        Field::U8 => 1,
-        Field::U16 => 2,
-        Field::U32 => 4,
-        Field::I16 => 2,
-        Field::I32 => 4,
+impl Field {
+    pub fn width(self) -> usize
+        ensures { result ≡ field_width (field_of self) }
+    {
+        match self {
+            Field::U8 => 1,
+            Field::U16 => 2,
+            Field::U32 => 4,
+            Field::I16 => 2,
+            Field::I32 => 4,
+        }
     }
-}
 
-pub fn number_at(b: &[u8], at: usize, field: Field) -> i64
-    requires { Within b.now at (field_width (field_of field)) }
-    ensures { result ≡ field_at (field_of field) b.now at }
-{
-    match field {
-        Field::U8 => wire::u8_at(b, at) as i64,
-        Field::U16 => wire::u16_at(b, at) as i64,
-        Field::U32 => wire::u32_at(b, at) as i64,
-        Field::I16 => wire::i16_at(b, at),
-        Field::I32 => wire::i32_at(b, at),
+    #[tactic(auto, unfolding(market::specs::Numbers::field_at))]
+    pub fn number_at(self, b: &[u8], at: usize) -> i64
+        requires { Within b.now at (field_width (field_of self)) }
+        ensures { result ≡ field_at (field_of self) b.now at }
+    {
+        match self {
+            Field::U8 => i64::from(wire::u8_at(b, at)),
+            Field::U16 => i64::from(wire::u16_at(b, at)),
+            Field::U32 => i64::from(wire::u32_at(b, at)),
+            Field::I16 => wire::i16_at(b, at),
+            Field::I32 => wire::i32_at(b, at),
+        }
     }
-}
 
-pub fn within(v: i64, low: i64, high: i64) -> bool
-    ensures { result ≡ within_ℤ low high v }
-{
-    if v < low {
-        return false;
-    }
-    v <= high
-}
-
-pub fn fits(field: Field, v: i64) -> bool
-    ensures { result ≡ within_ℤ (field_low (field_of field)) (field_high (field_of field)) v }
-{
-    match field {
-        Field::U8 => within(v, 0, 255),
-        Field::U16 => within(v, 0, 65535),
-        Field::U32 => within(v, 0, 4294967295),
-        Field::I16 => within(v, -32768, 32767),
-        Field::I32 => within(v, -2147483648, 2147483647),
+    pub fn fits(self, v: i64) -> bool
+        ensures { result ≡ within_ℤ (field_low (field_of self)) (field_high (field_of self)) v }
+    {
+        match self {
+            Field::U8 => (0..=255).contains(&v),
+            Field::U16 => (0..=65535).contains(&v),
+            Field::U32 => (0..=4294967295).contains(&v),
+            Field::I16 => (-32768..=32767).contains(&v),
+            Field::I32 => (-2147483648..=2147483647).contains(&v),
+        }
     }
 }
 
@@ -237,28 +226,30 @@ fn certificate_head_field(k: usize) -> Field
 }
 
 // ---- the k-th number's field, for any number of flowgates
-fn case_field(resources: usize, zones: usize, k: usize) -> Field
-    requires { (resources ≤ most_resources) × (zones ≤ most_zones) }
-    ensures { (f : ℕ) → k < length (case_fields resources zones f) → field_of result ≡ get_or (case_fields resources zones f) k u8 }
+#[tactic(auto, using(crate::proofs::Places::case_places))]
+fn case_field(n: Counts, k: usize) -> Field
+    requires { (n.resources ≤ most_resources) × (n.zones ≤ most_zones) }
+    ensures { (f : ℕ) → k < length (case_fields n.resources n.zones f) → field_of result ≡ get_or (case_fields n.resources n.zones f) k u8 }
 {
     if k < HEAD_NUMBERS {
         return head_field(k);
     }
-    let zones_end = HEAD_NUMBERS + ZONE_NUMBERS * zones;
+    let zones_end = HEAD_NUMBERS + ZONE_NUMBERS * n.zones;
     if k < zones_end {
         return Field::U32;
     }
-    let resources_end = zones_end + RESOURCE_NUMBERS * resources;
+    let resources_end = zones_end + RESOURCE_NUMBERS * n.resources;
     if k < resources_end {
         return resource_field((k - zones_end) % RESOURCE_NUMBERS);
     }
     // a flowgate's limit, then its shift factors
-    if (k - resources_end) % (resources + 1) == 0 {
+    if (k - resources_end) % (n.resources + 1) == 0 {
         return Field::I32;
     }
     Field::I16
 }
 
+#[tactic(auto, using(crate::proofs::Places::certificate_places))]
 fn certificate_field(k: usize) -> Field
     ensures { (n z f : ℕ) → k < length (certificate_fields n z f) → field_of result ≡ get_or (certificate_fields n z f) k u8 }
 {
@@ -268,30 +259,43 @@ fn certificate_field(k: usize) -> Field
     Field::U32
 }
 
-pub fn field_of(file: File, resources: usize, zones: usize, k: usize) -> Field
-    requires { (resources ≤ most_resources) × (zones ≤ most_zones) }
-    ensures { (f : ℕ) → k < length (fields_of file resources zones f) → field_of result ≡ get_or (fields_of file resources zones f) k u8 }
-{
-    match file {
-        File::Case => case_field(resources, zones, k),
-        File::Certificate => certificate_field(k),
-    }
+// A trait with a type for each file says more and no plainer: each promise, two bodies of it, and both files' grounds besides.
+#[derive(Clone, Copy, Drop)]
+pub enum File {
+    Case,
+    Certificate,
 }
 
-// How many numbers a file has.
-pub fn count(file: File, resources: usize, zones: usize, flowgates: usize) -> usize
-    requires { CountsWithin resources zones flowgates }
-    ensures { result ≡ length (fields_of file resources zones flowgates) }
-{
-    match file {
-        File::Case => {
-            HEAD_NUMBERS
-                + ZONE_NUMBERS * zones
-                + RESOURCE_NUMBERS * resources
-                + flowgates * (resources + 1)
+impl File {
+    pub fn field_at(self, n: Counts, k: usize) -> Field
+        requires { (n.resources ≤ most_resources) × (n.zones ≤ most_zones) }
+        ensures { (f : ℕ) → k < length (fields_of self n.resources n.zones f) → field_of result ≡ get_or (fields_of self n.resources n.zones f) k u8 }
+    {
+        match self {
+            File::Case => case_field(n, k),
+            File::Certificate => certificate_field(k),
         }
-        File::Certificate => {
-            CERTIFICATE_HEAD_NUMBERS + ZONE_NUMBERS * zones + flowgates + ENTRY_NUMBERS * resources
+    }
+
+    // How many numbers a file has.
+    #[tactic(auto, using(market::proofs::FileSizes::case_count, market::proofs::FileSizes::certificate_count))]
+    pub fn count(self, n: Counts) -> usize
+        requires { CountsWithin n.resources n.zones n.flowgates }
+        ensures { result ≡ length (fields_of self n.resources n.zones n.flowgates) }
+    {
+        match self {
+            File::Case => {
+                HEAD_NUMBERS
+                    + ZONE_NUMBERS * n.zones
+                    + RESOURCE_NUMBERS * n.resources
+                    + n.flowgates * (n.resources + 1)
+            }
+            File::Certificate => {
+                CERTIFICATE_HEAD_NUMBERS
+                    + ZONE_NUMBERS * n.zones
+                    + n.flowgates
+                    + ENTRY_NUMBERS * n.resources
+            }
         }
     }
 }

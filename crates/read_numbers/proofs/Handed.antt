@@ -1,5 +1,6 @@
 -- The answer of reading and the lent buffer afterwards, where the other grounds have decided; and that what was read is
 -- written back as the file.
+use Rattle.std.specs.Prelude.{Result, Ok, Err}
 use mathlib.Core.Path.{◌≡◌, refl, sym, ◌∙◌, ap}
 use mathlib.Core.List.{List, [], ◌∷◌, ◌++◌}
 use Prim.Native.Nat.{ℕ, suc, ◌<◌, ◌≤◌}
@@ -9,16 +10,15 @@ use lib.ListN.{length, drop, get_or}
 use Rattle.market.specs.declared.Refusal.{Refusal}
 use Rattle.market.specs.declared.Refusal.TheVariants.{BufferShort}
 use Rattle.market.specs.declared.Counts.{Counts}
-use Rattle.market.specs.declared.Transfer.{Transfer}
-use Rattle.market.specs.declared.Transfer.TheVariants as W
 use Rattle.market.specs.CaseCheck.{CountsWithin}
-use Rattle.market.specs.Refusals.{Finding, clear, holds, first_of, transfer_of, buffer_after, AllClear}
+use Rattle.market.specs.Refusals.{Finding, clear, holds, answered, first_of, buffer_after, AllClear}
 use Rattle.market.specs.Numbers.{Field, numbers_at, numbers_of, read_case, read_case_grounds, read_case_buffer, read_certificate, read_certificate_grounds, read_certificate_buffer, write_case, write_case_buffer, write_certificate, write_certificate_buffer}
 use Rattle.market.specs.RoundTrips.{AreBytes}
 use Rattle.market.proofs.FieldLists.{numbers_length}
 use Rattle.market.proofs.FileSizes.{case_count, certificate_count, flowgate_numbers_within}
 use Rattle.market.proofs.LentBuffer.{refused_before, too_short, long_enough}
 use Rattle.market.proofs.RoundTrips.{received, round_trips}
+use Rattle.case_check.proofs.Passing.{refused_holds}
 use Rattle.fields.specs.declared.File.{File}
 use Rattle.fields.specs.declared.File.TheVariants.{Case, Certificate}
 use Rattle.fields.specs.Layout.{fields_of}
@@ -29,16 +29,16 @@ use Rattle.read_numbers.specs.Reading.{filed_counts, reading_grounds, grounds_wi
 abbrev pub fields_by : File → Counts → List Field
 fields_by file n = fields_of file n.resources n.zones n.flowgates
 
-pub count_small : (file : File) (r z f : ℕ) → CountsWithin r z f → length (fields_of file r z f) < 4294967296
-count_small Case r z f n = omega (arith, case_count r z f, flowgate_numbers_within n, n.most_resources, n.most_zones)
-count_small Certificate r z f n = omega (arith, certificate_count r z f, n.most_resources, n.most_zones, n.most_flowgates)
+pub count_small : (file : File) {r z f : ℕ} → CountsWithin r z f → length (fields_of file r z f) < 4294967296
+count_small Case {r} {z} {f} n = omega (arith, case_count r z f, flowgate_numbers_within n, n.most_resources, n.most_zones)
+count_small Certificate {r} {z} {f} n = omega (arith, certificate_count r z f, n.most_resources, n.most_zones, n.most_flowgates)
 
 module _ (file : File) (b : List ℕ) (old : List ℤ) where
   -- the answer and the buffer afterwards
-  abbrev Read : Transfer → List ℤ → Type 0
+  abbrev Read : (Result ℕ Refusal) → List ℤ → Type 0
   Read r out = (r ≡ read_file file b (length old)) × (out ≡ read_file_buffer file b old)
 
-  by_finding : (f : Finding) → first_of (grounds_with15 file b (length old)) ≡ f → Read (transfer_of (length (numbers_of (fields_of file) b)) f) (buffer_after f (numbers_of (fields_of file) b) old)
+  by_finding : (f : Finding) → first_of (grounds_with15 file b (length old)) ≡ f → Read (answered (length (numbers_of (fields_of file) b)) f) (buffer_after f (numbers_of (fields_of file) b) old)
   unfolding read_file read_file_buffer
   by_finding f e = rw e (refl, refl)
 
@@ -46,19 +46,19 @@ module _ (file : File) (b : List ℕ) (old : List ℤ) where
   unfolding numbers_of
   numbers_many n e = numbers_length (fields_by file (filed_counts b)) b 5 ∙ ap (λ (m : Counts). length (fields_by file m)) (sym e)
 
-  pub read_refused : (w : Refusal) → first_of (reading_grounds file b) ≡ holds w → Read (W.Refused w) old
-  read_refused w h = by_finding (holds w) (refused_before (reading_grounds file b) (length (numbers_of (fields_of file) b)) (length old) w h)
+  pub read_refused : (m : Counts) (w : Refusal) → answered m (first_of (reading_grounds file b)) ≡ Err w → Read (Err w) old
+  read_refused m w h = by_finding (holds w) (refused_before (reading_grounds file b) (length (numbers_of (fields_of file) b)) (length old) w (refused_holds m w (first_of (reading_grounds file b)) h))
 
   module _ (n : Counts) (e : n ≡ filed_counts b) (h : first_of (reading_grounds file b) ≡ clear) where
-    pub read_short : length old < length (fields_by file n) → Read (W.Refused BufferShort) old
+    pub read_short : length old < length (fields_by file n) → Read (Err BufferShort) old
     read_short l = by_finding (holds BufferShort) (too_short (reading_grounds file b) (length (numbers_of (fields_of file) b)) (length old) h (omega (arith, numbers_many n e)))
 
-    pub read_whole : (out : List ℤ) → length (fields_by file n) ≤ length old → out ≡ numbers_at (fields_by file n) b 5 ++ drop (length (fields_by file n)) old → Read (W.Written (length (fields_by file n))) out
+    pub read_whole : (out : List ℤ) → length (fields_by file n) ≤ length old → out ≡ numbers_at (fields_by file n) b 5 ++ drop (length (fields_by file n)) old → Read (Ok (length (fields_by file n))) out
     unfolding numbers_of
     read_whole out l k =
         let many = numbers_many n e in
         let r = by_finding clear (long_enough (reading_grounds file b) (length (numbers_of (fields_of file) b)) (length old) h (omega (arith, many))) in
-        (ap W.Written (sym many) ∙ r.0, k ∙ rw (← many, e) r.1)
+        (ap Ok (sym many) ∙ r.0, k ∙ rw (← many, e) r.1)
 
 -- ---- written back
 -- what a slice of u8 holds, of which each element is known to be below 256
@@ -66,22 +66,22 @@ pub bytes_of : (b : List ℕ) → ((i : ℕ) → get_or b i 0 < 256) → AreByte
 bytes_of [] h = tt
 bytes_of (x ∷ b) h = (h 0, bytes_of b (λ i. h (suc i)))
 
-written_back : (file : File) (writing : List ℤ → ℕ → Transfer) (writeBuffer : List ℤ → List ℕ → List ℕ)
+written_back : (file : File) (writing : List ℤ → ℕ → Result ℕ Refusal) (writeBuffer : List ℤ → List ℕ → List ℕ)
     → ((b : List ℕ) → AreBytes b → AllClear (reading_grounds file b) → (out : List ℕ) → length b ≤ length out →
-    (writing (numbers_of (fields_of file) b) (length out) ≡ W.Written (length b)) × (writeBuffer (numbers_of (fields_of file) b) out ≡ b ++ drop (length b) out))
-    → (b : List ℕ) (old out : List ℤ) (r : Transfer) → AreBytes b → r ≡ read_file file b (length old) → out ≡ read_file_buffer file b old → WrittenBack writing writeBuffer b out r
+    (writing (numbers_of (fields_of file) b) (length out) ≡ Ok (length b)) × (writeBuffer (numbers_of (fields_of file) b) out ≡ b ++ drop (length b) out))
+    → (b : List ℕ) (old out : List ℤ) (r : Result ℕ Refusal) → AreBytes b → r ≡ read_file file b (length old) → out ≡ read_file_buffer file b old → WrittenBack writing writeBuffer b out r
 unfolding read_file read_file_buffer
 written_back file writing writeBuffer trip b old out r bytes e k n w lent l =
     let g = received (reading_grounds file b) (numbers_of (fields_of file) b) old n (sym e ∙ w) in
     rw (k, g.1) (trip b bytes g.0 lent l)
 
 -- ---- the two operations
-pub case_read : (b : List ℕ) (old out : List ℤ) (r : Transfer) → AreBytes b → (r ≡ read_file Case b (length old)) × (out ≡ read_file_buffer Case b old)
+pub case_read : (b : List ℕ) (old out : List ℤ) (r : Result ℕ Refusal) → AreBytes b → (r ≡ read_file Case b (length old)) × (out ≡ read_file_buffer Case b old)
     → (r ≡ read_case b (length old)) × (out ≡ read_case_buffer b old) × WrittenBack write_case write_case_buffer b out r
 unfolding read_file read_file_buffer read_case read_case_grounds read_case_buffer
 case_read b old out r bytes h = (h.0, h.1, written_back Case write_case write_case_buffer round_trips.case_file.read_written b old out r bytes h.0 h.1)
 
-pub certificate_read : (q : List ℕ) (old out : List ℤ) (r : Transfer) → AreBytes q → (r ≡ read_file Certificate q (length old)) × (out ≡ read_file_buffer Certificate q old)
+pub certificate_read : (q : List ℕ) (old out : List ℤ) (r : Result ℕ Refusal) → AreBytes q → (r ≡ read_file Certificate q (length old)) × (out ≡ read_file_buffer Certificate q old)
     → (r ≡ read_certificate q (length old)) × (out ≡ read_certificate_buffer q old) × WrittenBack write_certificate write_certificate_buffer q out r
 unfolding read_file read_file_buffer read_certificate read_certificate_grounds read_certificate_buffer
 certificate_read q old out r bytes h = (h.0, h.1, written_back Certificate write_certificate write_certificate_buffer round_trips.certificate_file.read_written q old out r bytes h.0 h.1)

@@ -5,7 +5,7 @@ use Prim.Native.Nat.{ℕ, ◌+◌, ◌<◌, ◌≤◌}
 use native.Mathlib.Omega.{arith}
 use lib.IntN.{ℤ}
 use lib.ListN.{length, get_or, take, drop, set}
-use lib.Seq.{length-take-le, take_all}
+use lib.Seq.{length-take-le}
 use Rattle.arith.specs.Sums.{total_of}
 use Rattle.market.specs.Numbers.{Field, u8, field_width, field_at, numbers_at}
 use Rattle.market.proofs.FieldLists.{numbers_length}
@@ -26,7 +26,3 @@ module _ (fs : List Field) (b : List ℕ) (k at : ℕ) (h : k < length fs) (plac
       let many : length (numbers_at (take k fs) b 5) ≡ k = numbers_length (take k fs) b 5 ∙ length-take-le k fs (omega arith) in
       let number : v ≡ field_at (get_or fs k u8) b (5 + total_of field_width (take k fs)) = e ∙ ap (field_at (get_or fs k u8) b) place in
       rw (numbers_next fs k h b 5, ← number) (store_on (numbers_at (take k fs) b 5) old out v k many l front)
-
--- past the last field
-pub all_stored : (fs : List Field) (b : List ℕ) (old out : List ℤ) (k : ℕ) → k ≡ length fs → out ≡ numbers_at (take k fs) b 5 ++ drop k old → out ≡ numbers_at fs b 5 ++ drop (length fs) old
-all_stored fs b old out k e h = h ∙ rw (e, take_all (length fs) fs (omega arith))

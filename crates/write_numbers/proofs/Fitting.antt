@@ -1,18 +1,17 @@
--- Numbers that fit their fields: unsigned ones are what the code's casts make of them, signed ones fit their width.
+-- Numbers that fit their fields: unsigned ones are what the code's casts make of them.
 use mathlib.Core.Path.{◌≡◌, refl, sym, ap, subst}
 use mathlib.Core.Bool.{Bool, true, false}
 use mathlib.Core.List.{[], ◌∷◌}
-use Prim.Native.Nat.{ℕ, suc, ◌%◌, ◌≤◌}
+use Prim.Native.Nat.{ℕ, ◌%◌, ◌≤◌}
 use native.Mathlib.Nat.{mod-eq_of_lt}
 use native.Mathlib.Omega.{arith}
 use lib.Dec.{T}
-use lib.IntN.{ℤ, pos, negsuc, neg_ℤ, nat_abs}
+use lib.IntN.{ℤ, pos, negsuc, nat_abs}
 use lib.Signed.{le_z, ◌≤ℤ◌}
 use Rattle.arith.proofs.Order.{zl}
 use Rattle.arith.proofs.AllTests.{and_split}
 use Rattle.market.specs.Bytes.{within_ℤ}
-use Rattle.market.specs.Numbers.{u8, u16, u32, i16, i32, u16_bytes, u32_bytes, field_bytes}
-use Rattle.wire.specs.Within.{Signed}
+use Rattle.market.specs.Numbers.{u8, u16, u32, u16_bytes, u32_bytes, field_bytes}
 use Rattle.write_numbers.specs.Listed.{Fits}
 
 pub is_true : (t : Bool) → T t → t ≡ true
@@ -28,10 +27,6 @@ module _ (low high v : ℤ) (e : within_ℤ low high v ≡ true) where
   to_high = record { le = (and_split (le_z low v) (le_z v high) (subst T (sym e) tt)).1 }
 
 -- from 0 on it is its own size
-pub plain : (v : ℤ) → le_z (pos 0) v ≡ true → v ≡ pos (nat_abs v)
-plain (pos n) e = refl
-plain (negsuc n) e = absurd (subst T (sym e) tt)
-
 pub plain_within : (high : ℕ) (v : ℤ) → within_ℤ (pos 0) (pos high) v ≡ true → (v ≡ pos (nat_abs v)) × (nat_abs v ≤ high)
 plain_within high (pos n) e = let h = to_high (pos 0) (pos high) (pos n) e in (refl, omega zl)
 plain_within high (negsuc n) e = absurd (from_low (pos 0) (pos high) (negsuc n) e).le
@@ -52,12 +47,4 @@ unfolding field_bytes
 u32_plain (pos n) h = refl
 u32_plain (negsuc n) h = absurd (from_low (pos 0) (pos 4294967295) (negsuc n) h.fits).le
 
--- ---- signed fields
-signed : (most : ℕ) (v : ℤ) → within_ℤ (neg_ℤ (pos (suc most))) (pos most) v ≡ true → Signed (suc most) v
-signed most v e = record { low = from_low (neg_ℤ (pos (suc most))) (pos most) v e; high = let h = to_high (neg_ℤ (pos (suc most))) (pos most) v e in omega zl }
-
-pub i16_signed : (v : ℤ) → Fits i16 v → Signed 32768 v
-i16_signed v h = signed 32767 v h.fits
-
-pub i32_signed : (v : ℤ) → Fits i32 v → Signed 2147483648 v
-i32_signed v h = signed 2147483647 v h.fits
+pub ruleset unsigned_bytes = (u8_plain, u16_plain, u32_plain)

@@ -3,7 +3,7 @@ use mathlib.Core.Path.{◌≡◌, sym, ◌∙◌, ap}
 use mathlib.Core.List.{List, [], ◌∷◌, ◌++◌, append_assoc}
 use Prim.Native.Nat.{ℕ, ◌+◌, ◌-◌, ◌<◌, ◌≤◌}
 use native.Mathlib.Omega.{arith}
-use lib.ListN.{length, get_or, take, drop, length-append, length-drop, take-append-drop}
+use lib.ListN.{length, get_or, take, drop, length-append, take-append-drop}
 use lib.Seq.{length-take-le, take_at, drop_at, drop-drop}
 use lib.IntN.{ℤ, pos}
 use Rattle.arith.specs.Sums.{total_of}
@@ -16,10 +16,6 @@ use Rattle.write_numbers.proofs.Walked.{bytes_long, bytes_next, bytes_many}
 module _ {A : Type 0} where
   pub written_none : (p : ℕ) (old : List A) → written p [] old ≡ old
   written_none p old = let place : p + 0 ≡ p = omega arith in rw place (take-append-drop p old)
-
-  pub written_length : (p : ℕ) (new old : List A) → p + length new ≤ length old → length (written p new old) ≡ length old
-  written_length p new old h =
-      omega (arith, length-append (take p old) (new ++ drop (p + length new) old), length-append new (drop (p + length new) old), length-take-le p old (omega arith), length-drop (p + length new) old)
 
   -- the part b behind the part a
   write_on : (p : ℕ) (a b old : List A) → p + length a + length b ≤ length old → written (p + length a) b (written p a old) ≡ written p (a ++ b) old

@@ -3,16 +3,17 @@ use mathlib.Core.Path.{◌≡◌, refl, sym, ◌∙◌, ap, subst}
 use mathlib.Core.Bool.{Bool, true, false, ◌&&◌}
 use mathlib.Core.List.{List, [], ◌∷◌, ◌++◌, append-nil, append_assoc}
 use mathlib.Core.Logic.{◌≢◌}
-use Prim.Native.Nat.{ℕ, zero, suc, ◌+◌, ◌<◌}
+use Prim.Native.Nat.{ℕ, zero, suc, ◌+◌, ◌<◌, ◌≤◌}
 use native.Mathlib.Nat.{not-suc-le-zero, le_of_suc-le-suc}
 use native.Mathlib.Numerals.{add-one}
 use native.Mathlib.Omega.{arith}
 use lib.Dec.{T}
 use lib.IntN.{ℤ, pos}
 use lib.ListN.{length, get_or, take, length-append}
-use lib.Seq.{take-suc, take_all, length-take-le}
-use Rattle.arith.specs.Sums.{total_of}
-use Rattle.arith.proofs.AllTests.{and_split, and_assoc, and_true, and_false}
+use lib.Seq.{take_all, length-take-le}
+use Rattle.std.proofs.lemmas.List.{take_more}
+use Rattle.arith.specs.Sums.{total_of, upto, all}
+use Rattle.arith.proofs.AllTests.{and_split, and_assoc, and_true, and_false, all_append}
 use Rattle.market.specs.Bytes.{within_ℤ}
 use Rattle.market.specs.Numbers.{Field, u8, field_width, field_low, field_high, field_bytes, bytes_of, numbers_fit}
 use Rattle.market.proofs.FieldBytes.{field_length}
@@ -72,17 +73,7 @@ length_differs [] (v ∷ vs) h = refl
 length_differs (f ∷ fs) [] h = refl
 length_differs (f ∷ fs) (v ∷ vs) h = rw (← (length_differs fs vs (λ e. h (ap suc e))), and_false (fits_field f v))
 
-pub misfit : (fs : List Field) (vs : List ℤ) (k : ℕ) → k < length fs → length fs ≡ length vs → fits_field (get_or fs k u8) (get_or vs k (pos 0)) ≡ false → false ≡ numbers_fit fs vs
-unfolding numbers_fit
-misfit [] vs k h e m = absurd (not-suc-le-zero h)
-misfit (f ∷ fs) [] k h e m = absurd (omega arith)
-misfit (f ∷ fs) (v ∷ vs) zero h e m = rw m
-misfit (f ∷ fs) (v ∷ vs) (suc k) h e m = rw (← (misfit fs vs k (le_of_suc-le-suc h) (omega arith) m), and_false (fits_field f v))
-
 -- ---- one more
-next : {A : Type 0} (d : A) (l : List A) (k : ℕ) → k < length l → take (k + 1) l ≡ take k l ++ (get_or l k d ∷ [])
-next d l k h = ap (λ (j : ℕ). take j l) (add-one k) ∙ take-suc l k d h
-
 module _ (fs : List Field) (vs : List ℤ) (k : ℕ) (e : length fs ≡ length vs) (h : k < length fs) where
   abbrev field : Field
   field = get_or fs k u8
@@ -95,22 +86,28 @@ module _ (fs : List Field) (vs : List ℤ) (k : ℕ) (e : length fs ≡ length v
 
   fit_next : numbers_fit (take (k + 1) fs) (take (k + 1) vs) ≡ (numbers_fit (take k fs) (take k vs) && fits_field (get_or fs k u8) (get_or vs k (pos 0)))
   unfolding numbers_fit
-  fit_next = rw (next u8 fs k h, next (pos 0) vs k (omega arith), fit_append (take k fs) (field ∷ []) (take k vs) (number ∷ []) many, and_true (fits_field field number))
+  fit_next = rw (take_more fs k u8 h, take_more vs k (pos 0) (omega arith), fit_append (take k fs) (field ∷ []) (take k vs) (number ∷ []) many, and_true (fits_field field number))
 
   pub bytes_next : bytes_of (take (k + 1) fs) (take (k + 1) vs) ≡ bytes_of (take k fs) (take k vs) ++ field_bytes (get_or fs k u8) (get_or vs k (pos 0))
   unfolding bytes_of
-  bytes_next = rw (next u8 fs k h, next (pos 0) vs k (omega arith), bytes_append (take k fs) (field ∷ []) (take k vs) (number ∷ []) many, append-nil (field_bytes field number))
+  bytes_next = rw (take_more fs k u8 h, take_more vs k (pos 0) (omega arith), bytes_append (take k fs) (field ∷ []) (take k vs) (number ∷ []) many, append-nil (field_bytes field number))
 
   pub bytes_many : length (bytes_of (take k fs) (take k vs)) ≡ total_of field_width (take k fs)
   bytes_many = bytes_long (take k fs) (take k vs) many
 
-  pub fit_more : numbers_fit (take k fs) (take k vs) ≡ true → fits_field (get_or fs k u8) (get_or vs k (pos 0)) ≡ true → numbers_fit (take (k + 1) fs) (take (k + 1) vs) ≡ true
-  fit_more a b = fit_next ∙ rw (a, b)
-
 -- ---- past the last
-module _ (fs : List Field) (vs : List ℤ) (k : ℕ) (e : length fs ≡ length vs) (h : k ≡ length fs) where
-  pub fit_whole : numbers_fit (take k fs) (take k vs) ≡ true → true ≡ numbers_fit fs vs
-  fit_whole t = sym t ∙ rw (take_all k fs (omega arith), take_all k vs (omega arith))
+pub bytes_whole : (fs : List Field) (vs : List ℤ) (k : ℕ) → length fs ≡ length vs → k ≡ length fs → bytes_of (take k fs) (take k vs) ≡ bytes_of fs vs
+bytes_whole fs vs k e h = rw (take_all k fs (omega arith), take_all k vs (omega arith))
 
-  pub bytes_whole : bytes_of (take k fs) (take k vs) ≡ bytes_of fs vs
-  bytes_whole = rw (take_all k fs (omega arith), take_all k vs (omega arith))
+-- all fit where the number at each place does
+module _ (fs : List Field) (vs : List ℤ) (e : length fs ≡ length vs) where
+  abbrev pub fits_at : ℕ → Bool
+  fits_at k = fits_field (get_or fs k u8) (get_or vs k (pos 0))
+
+  fit_upto : (k : ℕ) → k ≤ length fs → all fits_at (upto k) ≡ numbers_fit (take k fs) (take k vs)
+  unfolding all upto numbers_fit
+  fit_upto zero h = refl
+  fit_upto (suc k) h = all_append fits_at (upto k) (k ∷ []) ∙ rw (and_true (fits_at k), fit_upto k (omega arith)) (rw add-one at (sym (fit_next fs vs k e (omega arith))))
+
+  pub fit_whole : all fits_at (upto (length fs)) ≡ numbers_fit fs vs
+  fit_whole = fit_upto (length fs) (omega arith) ∙ rw (take_all (length fs) fs (omega arith), take_all (length fs) vs (omega arith))

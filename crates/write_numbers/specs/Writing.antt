@@ -1,12 +1,11 @@
 -- Writing a file from numbers, of both files at once (01, 'How each operation refuses').
-use Rattle.std.specs.Prelude.{List, [], ◌∷◌, ◌++◌, ◌≡◌, ℕ, ◌+◌, ◌≤◌, ℤ, length, take, drop}
+use Rattle.market.specs.declared.Refusal.{Refusal}
+use Rattle.std.specs.Prelude.{Result, Ok, List, [], ◌∷◌, ◌++◌, ◌≡◌, ℕ, ◌+◌, ◌≤◌, ℤ, length, take, drop}
 use Rattle.arith.specs.Sums.{total_of}
 use Rattle.market.specs.declared.Counts.{Counts}
-use Rattle.market.specs.declared.Transfer.{Transfer}
-use Rattle.market.specs.Refusals.{Finding, first_of, transfer_of, buffer_after}
+use Rattle.market.specs.Refusals.{Finding, answered, first_of, buffer_after}
 use Rattle.market.specs.Outcome.{room}
 use Rattle.market.specs.Numbers.{field_width, count_in, field_grounds, file_for, list_grounds}
-use Rattle.market.specs.declared.Transfer.TheVariants as W
 use Rattle.fields.specs.declared.File.{File}
 use Rattle.fields.specs.declared.File.TheVariants.{Case, Certificate}
 use Rattle.fields.specs.Layout.{fields_of}
@@ -36,15 +35,15 @@ writing_grounds file vs = list_grounds (fields_of file) vs ++ further_grounds fi
 abbrev pub grounds_with15 : File → List ℤ → ℕ → List Finding
 grounds_with15 file vs n = writing_grounds file vs ++ (room (length (file_of_list file vs)) n ∷ [])
 
-unfoldable pub write_file : File → List ℤ → ℕ → Transfer
-write_file file vs n = transfer_of (length (file_of_list file vs)) (first_of (grounds_with15 file vs n))
+unfoldable pub write_file : File → List ℤ → ℕ → Result ℕ Refusal
+write_file file vs n = answered (length (file_of_list file vs)) (first_of (grounds_with15 file vs n))
 
 unfoldable pub write_file_buffer : File → List ℤ → List ℕ → List ℕ
 write_file_buffer file vs old = buffer_after (first_of (grounds_with15 file vs (length old))) (file_of_list file vs) old
 
 -- The n bytes that were written from the numbers vs, as they stand in the buffer, are read back as vs: by a reading, given as
 -- its answer and the lent numbers afterwards, into any numbers that are enough.
-abbrev pub ReadBack : (List ℕ → ℕ → Transfer) → (List ℕ → List ℤ → List ℤ) → List ℤ → List ℕ → Transfer → Type 0
+abbrev pub ReadBack : (List ℕ → ℕ → Result ℕ Refusal) → (List ℕ → List ℤ → List ℤ) → List ℤ → List ℕ → Result ℕ Refusal → Type 0
 ReadBack reading readBuffer vs buffer answer =
-    (n : ℕ) → answer ≡ W.Written n → (out : List ℤ) → length vs ≤ length out
-    → (reading (take n buffer) (length out) ≡ W.Written (length vs)) × (readBuffer (take n buffer) out ≡ vs ++ drop (length vs) out)
+    (n : ℕ) → answer ≡ Ok n → (out : List ℤ) → length vs ≤ length out
+    → (reading (take n buffer) (length out) ≡ Ok (length vs)) × (readBuffer (take n buffer) out ≡ vs ++ drop (length vs) out)

@@ -4,22 +4,22 @@
 
 ghost use Rattle.std.specs.Prelude.{◌≡◌, true, ◌++◌, ◌+◌, ◌<◌, ◌≤◌, length, drop, get_or, pos};
 ghost use Rattle.std.specs.Int.Signed.{le_z};
-ghost use Rattle.market.specs.CaseCheck.{CountsWithin, largest_case_size};
-ghost use Rattle.market.specs.Refusals.{clear, first_of};
+ghost use Rattle.market.specs.Bytes.{within_ℤ};
+ghost use Rattle.market.specs.CaseCheck.{most_resources, CountsWithin, largest_case_size};
+ghost use Rattle.market.specs.Refusals.{answered, clear, first_of};
 ghost use Rattle.market.specs.Numbers.{field_width, field_bytes, bytes_of, numbers_fit, file_of, count_in, counts_in_range, list_grounds, write_case, write_case_buffer, write_certificate, write_certificate_buffer, read_case, read_case_buffer, read_certificate, read_certificate_buffer};
 ghost use Rattle.wire.specs.Within.{Within, written};
-ghost use Rattle.case_check.specs.Stages.{stage_of};
 ghost use Rattle.fields.specs.declared.File.TheVariants.{Case};
 ghost use Rattle.fields.specs.Layout.{field_of, fields_of};
 ghost use Rattle.write_numbers.specs.Listed.{Fits, Listed};
 ghost use Rattle.write_numbers.specs.Writing.{listed_counts, size_of, writing_grounds, write_file, write_file_buffer, ReadBack};
 
-use case_check::Stage;
 use fields::{Field, File};
-use market::{Counts, Refusal, Transfer};
+use market::{Counts, Refusal};
 
 // ---- the bytes of a file
 // A number into its field; the other bytes stay as they are.
+#[tactic(auto, using(crate::proofs::Fitting::unsigned_bytes))]
 fn put_number(out: &mut [u8], at: usize, field: Field, v: i64)
     requires { Within out.old at (field_width (field_of field)) × Fits (field_of field) v }
     ensures { out.new ≡ written at (field_bytes (field_of field) v) out.old }
@@ -34,65 +34,57 @@ fn put_number(out: &mut [u8], at: usize, field: Field, v: i64)
 }
 
 // The numbers, field by field, after length and version.
-fn put_numbers(
-    file: File,
-    v: &[i64],
-    resources: usize,
-    zones: usize,
-    flowgates: usize,
-    out: &mut [u8],
-)
-    requires { Listed file v.now resources zones flowgates × (size_of file resources zones flowgates ≤ length out.old) }
-    ensures { out.new ≡ written 5 (bytes_of (fields_of file resources zones flowgates) v.now) out.old }
+fn put_numbers(file: File, v: &[i64], n: Counts, out: &mut [u8])
+    requires { Listed file v.now n.resources n.zones n.flowgates × (size_of file n.resources n.zones n.flowgates ≤ length out.old) }
+    ensures { out.new ≡ written 5 (bytes_of (fields_of file n.resources n.zones n.flowgates) v.now) out.old }
 {
-    let mut k: usize = 0;
     let mut at: usize = 5;
-    while k < v.len() {
-        let field = fields::field_of(file, resources, zones, k);
-        let number = v[k];
+    for (k, &number) in v.iter().enumerate() {
+        let field = file.field_at(n, k);
         put_number(out, at, field, number);
-        at += fields::width(field);
-        k += 1;
+        at += field.width();
     }
 }
 
 // How many bytes a file has.
-fn file_size(file: File, resources: usize, zones: usize, flowgates: usize) -> u32
-    requires { CountsWithin resources zones flowgates }
-    ensures { (result ≡ size_of file resources zones flowgates) × (result ≤ largest_case_size) }
+#[tactic(auto, using(crate::proofs::Handed::file_sizes))]
+fn file_size(file: File, n: Counts) -> u32
+    requires { CountsWithin n.resources n.zones n.flowgates }
+    ensures { (result ≡ size_of file n.resources n.zones n.flowgates) × (result ≤ largest_case_size) }
 {
     match file {
-        File::Case => market::case_size(resources, zones, flowgates) as u32,
-        File::Certificate => market::certificate_size(resources, zones, flowgates) as u32,
+        File::Case => market::case_size(n.resources, n.zones, n.flowgates) as u32,
+        File::Certificate => market::certificate_size(n.resources, n.zones, n.flowgates) as u32,
     }
 }
 
 // Length, version 1, the numbers; what stands beyond them in the buffer stays.
-fn put_file(file: File, v: &[i64], resources: usize, zones: usize, flowgates: usize, out: &mut [u8])
-    requires { Listed file v.now resources zones flowgates × (size_of file resources zones flowgates ≤ length out.old) }
-    ensures { out.new ≡ file_of (fields_of file resources zones flowgates) v.now ++ drop (size_of file resources zones flowgates) out.old }
+fn put_file(file: File, v: &[i64], n: Counts, out: &mut [u8])
+    requires { Listed file v.now n.resources n.zones n.flowgates × (size_of file n.resources n.zones n.flowgates ≤ length out.old) }
+    ensures { out.new ≡ file_of (fields_of file n.resources n.zones n.flowgates) v.now ++ drop (size_of file n.resources n.zones n.flowgates) out.old }
 {
-    let size = file_size(file, resources, zones, flowgates);
+    let size = file_size(file, n);
     wire::put_u32(out, 0, size - 4);
     wire::put_u8(out, 4, 1);
-    put_numbers(file, v, resources, zones, flowgates, out);
+    put_numbers(file, v, n, out);
 }
 
 // ---- 16, 3, 16
+fn count_right(count: i64, least: i64, most: usize) -> bool
+    requires { most ≤ most_resources }
+    ensures { result ≡ within_ℤ least (pos most) count }
+{
+    (least..=most as i64).contains(&count)
+}
+
+#[tactic(auto, unfolding(market::specs::Numbers::counts_in_range))]
 fn counts_in_range(v: &[i64]) -> bool
     requires { 3 ≤ length v.now }
     ensures { result ≡ counts_in_range v.now }
 {
-    let resources = v[0];
-    let zones = v[1];
-    let flowgates = v[2];
-    if !fields::within(resources, 1, market::MOST_RESOURCES as i64) {
-        return false;
-    }
-    if !fields::within(zones, 1, market::MOST_ZONES as i64) {
-        return false;
-    }
-    fields::within(flowgates, 0, market::MOST_FLOWGATES as i64)
+    count_right(v[0], 1, market::MOST_RESOURCES)
+        && count_right(v[1], 1, market::MOST_ZONES)
+        && count_right(v[2], 0, market::MOST_FLOWGATES)
 }
 
 fn count_in(v: &[i64], k: usize) -> usize
@@ -114,109 +106,79 @@ fn counts_in(v: &[i64]) -> Counts
     }
 }
 
-fn numbers_fit(file: File, v: &[i64], resources: usize, zones: usize, flowgates: usize) -> bool
-    requires { CountsWithin resources zones flowgates }
-    ensures { result ≡ numbers_fit (fields_of file resources zones flowgates) v.now }
+fn numbers_fit(file: File, v: &[i64], n: Counts) -> bool
+    requires { CountsWithin n.resources n.zones n.flowgates }
+    ensures { result ≡ numbers_fit (fields_of file n.resources n.zones n.flowgates) v.now }
 {
-    let count = fields::count(file, resources, zones, flowgates);
+    let count = file.count(n);
     if v.len() != count {
         return false;
     }
-    let mut k: usize = 0;
-    while k < count {
-        let field = fields::field_of(file, resources, zones, k);
-        let number = v[k];
-        if !fields::fits(field, number) {
-            return false;
-        }
-        k += 1;
-    }
-    true
+    (0..count).all(|k| file.field_at(n, k).fits(v[k]))
 }
 
-fn list_stage(file: File, v: &[i64]) -> Stage
-    ensures { result ≡ stage_of (listed_counts v.now) (first_of (list_grounds (fields_of file) v.now)) }
+#[tactic(auto, unfolding(market::specs::Numbers::list_grounds, market::specs::Numbers::fields_for, market::specs::Refusals::first_of))]
+fn list_stage(file: File, v: &[i64]) -> Result<Counts, Refusal>
+    ensures { result ≡ answered (listed_counts v.now) (first_of (list_grounds (fields_of file) v.now)) }
 {
     if v.len() < 3 {
-        return Stage::Refused(Refusal::NumberList);
+        return Err(Refusal::NumberList);
     }
     if !counts_in_range(v) {
-        return Stage::Refused(Refusal::Counts);
+        return Err(Refusal::Counts);
     }
     let n = counts_in(v);
-    if !numbers_fit(file, v, n.resources, n.zones, n.flowgates) {
-        return Stage::Refused(Refusal::NumberList);
+    if !numbers_fit(file, v, n) {
+        return Err(Refusal::NumberList);
     }
-    Stage::Passed(n)
+    Ok(n)
 }
 
 // ---- 5, 6, 7
 // Of the file that is to be written, put into bytes that no one reads afterwards.
-fn filed_stage(
-    v: &[i64],
-    resources: usize,
-    zones: usize,
-    flowgates: usize,
-    bytes: &mut [u8],
-) -> Stage
-    requires { Listed Case v.now resources zones flowgates × (size_of Case resources zones flowgates ≤ length bytes.old) }
-    ensures { result ≡ stage_of (listed_counts v.now) (first_of (writing_grounds Case v.now)) }
+fn filed_stage(v: &[i64], n: Counts, bytes: &mut [u8]) -> Result<Counts, Refusal>
+    requires { Listed Case v.now n.resources n.zones n.flowgates × (size_of Case n.resources n.zones n.flowgates ≤ length bytes.old) }
+    ensures { result ≡ answered (listed_counts v.now) (first_of (writing_grounds Case v.now)) }
 {
-    let size = file_size(File::Case, resources, zones, flowgates) as usize;
-    put_file(File::Case, v, resources, zones, flowgates, bytes);
-    case_check::case_stage(&bytes[0..size])
+    let size = file_size(File::Case, n) as usize;
+    put_file(File::Case, v, n, bytes);
+    case_check::case_stage(&bytes[..size])
 }
 
-fn case_stage(v: &[i64]) -> Stage
-    ensures { result ≡ stage_of (listed_counts v.now) (first_of (writing_grounds Case v.now)) }
+fn case_stage(v: &[i64]) -> Result<Counts, Refusal>
+    ensures { result ≡ answered (listed_counts v.now) (first_of (writing_grounds Case v.now)) }
 {
-    let earlier = list_stage(File::Case, v);
-    let Stage::Passed(n) = earlier else {
-        return earlier;
-    };
-    let resources = n.resources;
-    let zones = n.zones;
-    let flowgates = n.flowgates;
+    let n = list_stage(File::Case, v)?;
     let mut bytes = [0u8; market::LARGEST_CASE_SIZE];
-    filed_stage(v, resources, zones, flowgates, &mut bytes)
+    filed_stage(v, n, &mut bytes)
 }
 
 // ---- the operations
-// 15, then the file of numbers that have passed the other grounds.
-fn hand_over(file: File, v: &[i64], out: &mut [u8]) -> Transfer
-    requires { first_of (writing_grounds file v.now) ≡ clear }
+// 15, then the file of numbers that have passed the other grounds, with their counts n.
+fn hand_over(file: File, v: &[i64], n: Counts, out: &mut [u8]) -> Result<u32, Refusal>
+    requires { (first_of (writing_grounds file v.now) ≡ clear) × (n ≡ listed_counts v.now) }
     ensures { (result ≡ write_file file v.now (length out.old)) × (out.new ≡ write_file_buffer file v.now out.old) }
 {
-    let n = counts_in(v);
-    let resources = n.resources;
-    let zones = n.zones;
-    let flowgates = n.flowgates;
-    let size = file_size(file, resources, zones, flowgates);
+    let size = file_size(file, n);
     if out.len() < size as usize {
-        return Transfer::Refused(Refusal::BufferShort);
+        return Err(Refusal::BufferShort);
     }
-    put_file(file, v, resources, zones, flowgates, out);
-    Transfer::Written(size)
+    put_file(file, v, n, out);
+    Ok(size)
 }
 
 // Writes a case from numbers: 16, 3, 16, 5, 6, 7, then 15.
-pub fn write_case(v: &[i64], out: &mut [u8]) -> Transfer
+pub fn write_case(v: &[i64], out: &mut [u8]) -> Result<u32, Refusal>
     ensures { (result ≡ write_case v.now (length out.old)) × (out.new ≡ write_case_buffer v.now out.old) × ReadBack read_case read_case_buffer v.now out.new result }
 {
-    let stage = case_stage(v);
-    let Stage::Refused(why) = stage else {
-        return hand_over(File::Case, v, out);
-    };
-    Transfer::Refused(why)
+    let n = case_stage(v)?;
+    hand_over(File::Case, v, n, out)
 }
 
 // Writes a certificate from numbers: 16, 3, 16, then 15.
-pub fn write_certificate(v: &[i64], out: &mut [u8]) -> Transfer
+pub fn write_certificate(v: &[i64], out: &mut [u8]) -> Result<u32, Refusal>
     ensures { (result ≡ write_certificate v.now (length out.old)) × (out.new ≡ write_certificate_buffer v.now out.old) × ReadBack read_certificate read_certificate_buffer v.now out.new result }
 {
-    let stage = list_stage(File::Certificate, v);
-    let Stage::Refused(why) = stage else {
-        return hand_over(File::Certificate, v, out);
-    };
-    Transfer::Refused(why)
+    let n = list_stage(File::Certificate, v)?;
+    hand_over(File::Certificate, v, n, out)
 }

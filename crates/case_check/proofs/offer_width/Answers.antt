@@ -4,10 +4,11 @@ use Rattle.case_soundness.proofs.Steps.{width_none, width_more}
 use Rattle.case_check.proofs.offer_width.Goals as goal
 
 pub loop-j-init : goal.loop-j-init
-loop-j-init c = (omega arith, sym (width_none (resource_at c.args.b.now c.args.at).step_width), omega arith)
+loop-j-init c = record { widths = sym (width_none (resource_at c.args.b.now c.args.at).step_width); room = omega arith }
 
 pub loop-j-preserved : goal.loop-j-preserved
 unfolding resource_at
 loop-j-preserved c =
-    let w : c.wide-sum.result ≡ (resource_at c.args.b.now c.args.at).step_width c.loop-j.j = c.wide-sum.ensures.0 ∙ c.u32_at.ensures in
-    (search rules, rw (width_more (resource_at c.args.b.now c.args.at).step_width c.loop-j.j, c.loop-j.invariant.1, w), search rules)
+    let l = c.loop-j in
+    let w : c.wide-sum.result ≡ (resource_at c.args.b.now c.args.at).step_width l.j = c.wide-sum.ensures.0 ∙ c.u32_at.ensures in
+    record { widths = rw (width_more (resource_at c.args.b.now c.args.at).step_width l.j, l.invariant.widths, w); room = search rules }

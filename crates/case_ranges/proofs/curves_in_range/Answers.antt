@@ -1,22 +1,9 @@
-use mathlib.Core.Path.{◌≡◌, sym, ◌∙◌}
-use native.Mathlib.Omega.{arith}
-use borrow.Author.Rules.{rules}
-use Rattle.arith.proofs.AllTests.{all_none, all_more, all_stop}
-use Rattle.market.specs.Case.{curve_numbered}
+use Rattle.std.proofs.Common.{refl, ◌∙◌, rules}
+use Rattle.arith.proofs.Ranges.{all_upto}
 use Rattle.market.specs.CaseFile.{case_of}
 use Rattle.market.proofs.CurveNumbers.{curves_numbered}
 use Rattle.case_ranges.specs.Pieces.{curve_in_range}
-use Rattle.case_ranges.proofs.Laws.{passed, failed}
 use Rattle.case_ranges.proofs.curves_in_range.Goals as goal
 
-pub loop-curve-init : goal.loop-curve-init
-loop-curve-init c = (omega arith, all_none (λ k. curve_in_range (case_of c.args.b.now) (curve_numbered k)))
-
-pub returns-then-not-curve_in_range : goal.returns-then-not-curve_in_range
-returns-then-not-curve_in_range c = rw (← (curves_numbered (curve_in_range (case_of c.args.b.now)))) (sym (all_stop (λ k. curve_in_range (case_of c.args.b.now) (curve_numbered k)) _ c.loop-curve.curve (omega arith) (failed c.curve_in_range.ensures c.if-not-curve_in_range.true-raw)))
-
-pub loop-curve-preserved : goal.loop-curve-preserved
-loop-curve-preserved c = (search rules, all_more (λ k. curve_in_range (case_of c.args.b.now) (curve_numbered k)) _ c.loop-curve.invariant.1 (passed c.curve_in_range.ensures c.if-not-curve_in_range.false-raw))
-
 pub returns : goal.returns
-returns c = let e : c.loop-curve.curve ≡ 4 = omega arith in sym (rw e at c.loop-curve.invariant.1) ∙ curves_numbered (curve_in_range (case_of c.args.b.now))
+returns c = all_upto _ _ refl c.all.ensures.ran (λ k b q h. search rules) ∙ curves_numbered (curve_in_range (case_of c.args.b.now))

@@ -1,12 +1,11 @@
 use Rattle.std.proofs.Common.{◌≡◌, sym, refl, ◌∙◌, arith, rules, below_none}
-use Rattle.case_soundness.specs.Ranks.{moved_of}
 use Rattle.case_soundness.proofs.Parts.{widths_at, prices_at, offer_sound}
 use Rattle.case_soundness.proofs.Ranks.{rank_at, rank_next, rising_next}
 use Rattle.case_soundness.proofs.Steps.{width_none, width_more}
 use Rattle.case_soundness.proofs.offer_sound.Goals as goal
 
 pub loop-j-init : goal.loop-j-init
-loop-j-init c = (omega arith, refl, sym (width_none _), omega arith, λ t. below_none _)
+loop-j-init c = (refl, sym (width_none _), omega arith, λ t. below_none _)
 
 pub loop-j-preserved : goal.loop-j-preserved
 loop-j-preserved c =
@@ -15,9 +14,8 @@ loop-j-preserved c =
     let price = c.u32_at-price.ensures in
     let w = widths_at c.args.b.now c.args.at in
     let p = prices_at c.args.b.now c.args.at in
-    let moved : c.wrapping_add_u32-moved.result ≡ moved_of (p v.j) = c.wrapping_add_u32-moved.ensures.value ∙ rw price in
-    let here : c.rank-here.result ≡ rank_at w p v.j = c.rank-here.ensures ∙ rw (width, price, moved) in
-    (search rules, here ∙ sym (rank_next w p v.j), rw (width_more w v.j, v.invariant.2, width), search rules, rising_next w p v.j v.invariant.4 (rw (← price) (omega arith)) moved v.invariant.1 here)
+    let here : c.rank-here.result ≡ rank_at w p v.j = c.rank-here.ensures ∙ rw (width, price) in
+    (here ∙ sym (rank_next w p v.j), rw (width_more w v.j, v.invariant.1, width), search rules, rising_next w p v.j v.invariant.3 (rw (← price) (omega arith)) (rw price) v.invariant.0 here)
 
 pub returns : goal.returns
-returns c = let v = c.loop-j in offer_sound c.args.b.now c.args.at (omega arith) v.invariant.1 v.invariant.2 v.invariant.4
+returns c = let v = c.loop-j in offer_sound c.args.b.now c.args.at (omega arith) v.invariant.0 v.invariant.1 v.invariant.3

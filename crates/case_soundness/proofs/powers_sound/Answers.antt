@@ -1,7 +1,14 @@
 use Rattle.std.proofs.Common.{sym, ◌∙◌}
-use borrow.Author.Tests.{not-false}
 use Rattle.case_soundness.proofs.Parts.{powers_sound}
 use Rattle.case_soundness.proofs.powers_sound.Goals as goal
+use Rattle.case_soundness.proofs.powers_sound.Goals.{then-pair_sound, else-pair_sound, then-pair_sound-2, else-pair_sound-2}
 
-pub returns : goal.returns
-returns c = λ t. powers_sound c.args.b.now c.args.at (c.pair_sound.ensures (not-false _ c.if-not-pair_sound.false-raw)) (c.pair_sound-2.ensures (not-false _ c.if-not-pair_sound-2.false-raw)) (c.pair_sound-3.ensures (not-false _ c.if-not-pair_sound-3.false-raw)) (sym c.all_at_most.ensures ∙ t)
+pub returns-then-pair_sound-3 : goal.returns-then-pair_sound-3
+returns-then-pair_sound-3 c =
+    elim c.if-pair_sound-2.branch [
+      | then-pair_sound-2 w ↦ elim c.if-pair_sound.branch [
+        | then-pair_sound v ↦ λ t. powers_sound c.args.b.now c.args.at (c.pair_sound.ensures v.if-pair_sound.true) (v.pair_sound-then-pair_sound.ensures cc) (w.pair_sound-then-pair_sound-2.ensures cc) (sym c.all_at_most.ensures ∙ t)
+        | else-pair_sound v ↦ absurd cc
+      ]
+      | else-pair_sound-2 w ↦ absurd cc
+    ]

@@ -1,21 +1,20 @@
-use mathlib.Core.Path.{◌≡◌}
+use mathlib.Core.Path.{◌≡◌, sym, ◌∙◌}
 use native.Mathlib.Omega.{arith}
-use Rattle.market.specs.Numbers.{certificate_file_grounds}
-use Rattle.read_numbers.specs.Reading.{filed_counts}
-use Rattle.market.specs.Refusals.{first_of}
-use Rattle.case_check.specs.declared.Stage.TheVariants.{Refused}
-use Rattle.case_check.specs.Stages.{stage_of}
-use Rattle.case_check.proofs.Passing.{refused_holds}
+use borrow.Author.Rules.{rules}
+use Rattle.std.specs.Prelude.{Result, Err, ℕ}
+use Rattle.market.specs.declared.Refusal.{Refusal}
+use Rattle.case_check.proofs.Passing.{passed_clear}
 use Rattle.fields.specs.declared.File.TheVariants.{Certificate}
 use Rattle.read_numbers.proofs.Handed.{certificate_read, bytes_of, read_refused}
 use Rattle.read_numbers.proofs.read_certificate.Goals as goal
 
-pub returns-in_default : goal.returns-in_default
-returns-in_default c = certificate_read _ _ _ _ (bytes_of c.args.q.now (λ i. omega (arith, c.type_inv.q i))) c.hand_over.ensures
+pub returns-in_err-n : goal.returns-in_err-n
+returns-in_err-n c =
+    let e : ◌≡◌ {A = Result ℕ Refusal} c.from_residual.result (Err c.in_err-n.field-0.0) = search rules in
+    certificate_read _ _ _ _ (bytes_of c.args.q.now (λ i. omega (arith, c.type_inv.q i))) (rw e (read_refused Certificate c.args.q.now c.args.out.now _ _ (sym c.certificate_stage.ensures ∙ c.in_err-n.was)))
+
+pub hand_over-requires : goal.hand_over-requires
+hand_over-requires c = passed_clear _ _ _ (sym c.certificate_stage.ensures ∙ c.in_ok-n.was)
 
 pub returns : goal.returns
-returns c =
-    let b = c.args.q.now in
-    let w = c.in-Refused.why in
-    let h : stage_of (filed_counts b) (first_of (certificate_file_grounds b)) ≡ Refused w = cc in
-    certificate_read b c.args.out.now _ _ (bytes_of c.args.q.now (λ i. omega (arith, c.type_inv.q i))) (read_refused Certificate b c.args.out.now w (refused_holds (filed_counts b) w (first_of (certificate_file_grounds b)) h))
+returns c = certificate_read _ _ _ _ (bytes_of c.args.q.now (λ i. omega (arith, c.type_inv.q i))) c.hand_over.ensures

@@ -5,7 +5,7 @@ use Rattle.market.specs.CaseFile.{case_of}
 use Rattle.market.specs.Records.{counts_in}
 use Rattle.market.specs.Refusals.{first_of}
 use Rattle.market.specs.Outcome.{case_grounds}
-use Rattle.case_check.specs.Stages.{stage_of}
+use Rattle.market.specs.Refusals.{answered}
 use Rattle.fields.specs.declared.File.TheVariants.{Case}
 use Rattle.write_numbers.proofs.Stages.{filed}
 use Rattle.write_numbers.proofs.Handed.{file_front}
@@ -15,5 +15,5 @@ pub returns : goal.returns
 returns c =
     let p = c.requires.0 in
     c.case_stage.ensures
-    ∙ ap (λ (x : List ℕ). stage_of (counts_in (case_of x)) (first_of (case_grounds x))) (file_front Case c.args.v.now c.args.resources c.args.zones c.args.flowgates p c.file_size-size.result c.file_size-size.ensures.0 _ _ c.put_file.ensures)
+    ∙ ap (λ (x : List ℕ). answered (counts_in (case_of x)) (first_of (case_grounds x))) (file_front Case c.args.v.now c.args.n.resources c.args.n.zones c.args.n.flowgates p c.file_size-size.result c.file_size-size.ensures.0 _ _ c.put_file.ensures)
     ∙ filed c.args.v.now p.none_holds

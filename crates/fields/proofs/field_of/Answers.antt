@@ -1,7 +1,0 @@
-use Rattle.fields.proofs.field_of.Goals as goal
-
-pub returns-in-Case : goal.returns-in-Case
-returns-in-Case c = rw c.in-Case.is c.case_field.ensures
-
-pub returns-in-Certificate : goal.returns-in-Certificate
-returns-in-Certificate c = rw c.in-Certificate.is (c.certificate_field.ensures c.args.resources c.args.zones)
