@@ -1,13 +1,11 @@
--- Figures in grains: how large they can be, and sums of them in a loop.
-use mathlib.Core.Path.{◌≡◌, refl, ap, ◌∙◌}
+-- Figures in grains: how large they can be.
+use mathlib.Core.Path.{◌≡◌, ap, ◌∙◌}
 use mathlib.Core.Bool.{Bool, true, false}
-use Prim.Native.Nat.{ℕ, ◌+◌, ◌*◌, ◌<◌, ◌≤◌}
+use Prim.Native.Nat.{ℕ, ◌*◌, ◌<◌, ◌≤◌}
 use native.Mathlib.Nat.{mul-le-mul, mul-le-mul_right}
 use native.Mathlib.Omega.{arith}
-use lib.IntN.{ℤ, pos, nat_abs, ◌+ℤ◌, ◌*ℤ◌}
-use Rattle.arith.specs.Sums.{sum_of, upto}
+use lib.IntN.{ℤ, nat_abs, ◌*ℤ◌}
 use Rattle.arith.proofs.Magnitudes.{abs-mul}
-use Rattle.arith.proofs.Sums.{sum-upto}
 use Rattle.market.specs.declared.Grains.{Grains}
 use Rattle.market.specs.declared.Kw.{Kw}
 use Rattle.market.specs.declared.Millicents.{Millicents}
@@ -26,31 +24,6 @@ figure_as h e l = record { is = h.is ∙ e; size = omega arith }
 
 pub product_most : (a b : ℤ) (m : ℕ) → nat_abs a ≤ m → nat_abs (a *ℤ b) ≤ m * nat_abs b
 product_most a b m h = omega (arith, abs-mul a b, mul-le-mul_right (nat_abs b) h)
-
--- ---- a sum in a loop: after k of n turns it is the sum of the first k terms, and at most `most k`
-pub record Summed (term : ℕ → ℤ) (most : ℕ → ℕ) (n : ℕ) (sum : Grains) (k : ℕ) : Type 0 where
-  pub turns : k ≤ n
-  pub figure : Figure sum (sum_of term (upto k)) (most k)
-
-module _ {term : ℕ → ℤ} {most : ℕ → ℕ} {n : ℕ} where
-  pub none_summed : Summed term most n (grains (pos 0)) 0
-  unfolding sum_of upto
-  none_summed = record { turns = omega arith; figure = record { is = refl; size = omega arith } }
-
-  -- u is s and one term more
-  pub one_summed : {s t u : Grains} {k m : ℕ} → Summed term most n s k → k < n → Figure t (term k) m → Figure u (s.0 +ℤ t.0) (nat_abs s.0 + nat_abs t.0) → most k + m ≤ most (k + 1) → Summed term most n u (k + 1)
-  one_summed {k = k} h l j g fit =
-      record {
-        turns = omega arith;
-        figure = record { is = g.is ∙ rw (h.figure.is, j.is, sum-upto term k); size = omega (arith, g.size, h.figure.size, j.size) };
-      }
-
-  -- the last turn is over
-  pub all_summed : {s : Grains} {k t : ℕ} → Summed term most n s k → n ≤ k → most n ≤ t → Figure s (sum_of term (upto n)) t
-  all_summed {s} {k} h l fit =
-      let e : k ≡ n = omega (arith, h.turns) in
-      let f : Figure s (sum_of term (upto n)) (most n) = rw (← e) h.figure in
-      record { is = f.is; size = omega (arith, f.size) }
 
 -- ---- products
 -- each factor within its figure: the product fits

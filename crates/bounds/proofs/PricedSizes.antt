@@ -1,4 +1,6 @@
 -- The offers of a resource and the steps of a curve are small enough for their part of the bound.
+use Rattle.market.specs.declared.Step.{Step}
+use mathlib.Core.List.{List}
 use mathlib.Core.Path.{◌≡◌}
 use Prim.Native.Nat.{ℕ, suc, ◌+◌, ◌<◌, ◌≤◌}
 use native.Mathlib.Nat.{le_refl}
@@ -9,8 +11,6 @@ use Rattle.arith.specs.Sums.{upto}
 use Rattle.arith.proofs.Lists.{each-upto}
 use Rattle.arith.proofs.NaturalSums.{total_mono, total-suc, total_longer}
 use Rattle.market.specs.Case.{Case, energy_steps, curve_steps}
-use Rattle.market.specs.declared.CurveSteps.{CurveSteps}
-use Rattle.market.specs.declared.OfferSteps.{OfferSteps}
 use Rattle.market.specs.Records.{offer_step_of, offer_steps_of}
 use Rattle.market.proofs.Ranges.{CaseRanges}
 use Rattle.market.proofs.AmountSizes.{widths_total}
@@ -36,7 +36,7 @@ module _ (c : Case) (h : CaseRanges c) (i : ℕ) (n : i < c.resources) where
       }
 
 -- the steps of an offer: widths so far, and with one more; a step by its number
-module _ {o : OfferSteps} (h : SmallSteps o) where
+module _ {o : (List Step)} (h : SmallSteps o) where
   abbrev widths : ℕ → ℕ
   widths j = nat_abs (offer_step o j).width.0
 
@@ -50,5 +50,5 @@ module _ {o : OfferSteps} (h : SmallSteps o) where
   step_small j l = record { width = omega (arith, widths_room j l); price = h.price j l }
 
 -- a step of a curve in its ranges
-pub curve_step_small : {o : CurveSteps} → RangedCurve o → (j : ℕ) → j < curve_steps → SmallStep (curve_step o j) most_curve_width
+pub curve_step_small : {o : (List Step)} → RangedCurve o → (j : ℕ) → j < curve_steps → SmallStep (curve_step o j) most_curve_width
 curve_step_small h j l = record { width = (h.width j l).at_most; price = (h.price j l).at_most }

@@ -1,5 +1,6 @@
 -- The priced quantities' part of the bound: what the records of a case and net prices make of it; then the whole
 -- bound.
+use Rattle.market.specs.declared.Step.{Step}
 use mathlib.Core.Path.{◌≡◌, refl, sym, ◌∙◌}
 use mathlib.Core.Bool.{Bool, true, false, cond}
 use mathlib.Core.List.{List, map}
@@ -12,7 +13,6 @@ use Rattle.arith.proofs.Linear.{sorted, count}
 use Rattle.arith.proofs.Sums.{sum-each-ext, append_sums, sum-add, sum-map, sum-across}
 use Rattle.market.specs.Case.{Case, Curve, curves, operating, regulating_plus_spinning, regulating, short_term, energy_steps, curve_steps}
 use Rattle.market.specs.CaseFile.{case_of}
-use Rattle.market.specs.declared.CurveSteps.{CurveSteps}
 use Rattle.market.specs.declared.Grains.{Grains}
 use Rattle.market.specs.declared.Millicents.{Millicents}
 use Rattle.market.specs.Availability.{on_line}
@@ -75,7 +75,7 @@ module _ (c : Case) (y : Prices) where
   curve_least_is k = sum-each-ext _ _ (upto curve_steps) (each-upto _ curve_steps (curve_step_least_is k)) ∙ sym (sum-map (lowest c y) (priced_curve_step k) (upto curve_steps))
 
   -- of what was read
-  pub curve_from_lem : (k : Curve) {p : Millicents} {o : CurveSteps} {g : Grains} {m : ℕ} → p ≡ millicents (y (market_row k)) → o ≡ curve_steps_of c k →
+  pub curve_from_lem : (k : Curve) {p : Millicents} {o : (List Step)} {g : Grains} {m : ℕ} → p ≡ millicents (y (market_row k)) → o ≡ curve_steps_of c k →
       Figure g (sum_of (λ j. curve_step_least p (curve_step o j)) (upto curve_steps)) m → Figure g (sum_of (lowest c y) (curve_priced k)) m
   curve_from_lem k e d h = record { is = h.is ∙ rw (e, d) (curve_least_is k); size = h.size }
 

@@ -1,13 +1,13 @@
 -- How large the terms of the bound can be, a figure for each kind of row and for each service, so that sums of them fit; and what
 -- is known of the records that they are made from. All are made from the figures of `market/specs/Sizes.antt`.
+use Rattle.market.specs.declared.PerCurve.{PerCurve}
+use Rattle.std.specs.Prelude.{List}
 use Rattle.std.specs.Prelude.{◌≡◌, ℕ, ◌+◌, ◌*◌, ◌<◌, ◌≤◌, ℤ, nat_abs}
 use Rattle.arith.specs.Sums.{total_of, upto}
 use Rattle.market.specs.declared.Grains.{Grains}
 use Rattle.market.specs.declared.Kw.{Kw}
 use Rattle.market.specs.declared.Millicents.{Millicents}
 use Rattle.market.specs.declared.Step.{Step}
-use Rattle.market.specs.declared.OfferSteps.{OfferSteps}
-use Rattle.market.specs.declared.ZoneRequirements.{ZoneRequirements}
 use Rattle.market.specs.Case.{energy_steps, curve_steps}
 use Rattle.market.specs.CaseCheck.{most_zones, most_flowgates}
 use Rattle.market.specs.UpperBounds.{Service, energy, regulation, contingency, on_line_short_term, off_line_short_term}
@@ -15,7 +15,6 @@ use Rattle.market.specs.Rows.{max_with_reserve, max_with_short_term, minimum, hi
 use Rattle.market.specs.Sizes.{most_power, most_cents, most_demand, most_curve_width, most_zone_requirement, most_flowgate_limit, most_limit, most_price, most_service_net, most_curve_net}
 use Rattle.case_records.specs.Ranged.{offer_step}
 use Rattle.net_prices.specs.Sizes.{SmallOffer, SmallPrice}
-use Rattle.bounds.specs.Terms.{required}
 
 -- ---- how large they can be, in grains: row price × right side
 -- the four rows of a zone
@@ -69,11 +68,11 @@ pub record RowRoom (price : Millicents) (side : Kw) : Type 0 where
   pub row_price : SmallPrice price
   pub right_side : nat_abs side.0 ≤ most_demand
 
-pub record SmallRequirements (requirements : ZoneRequirements) : Type 0 where
-  pub operating : nat_abs (required requirements 0) ≤ most_zone_requirement
-  pub regulating_plus_spinning : nat_abs (required requirements 1) ≤ most_zone_requirement
-  pub regulating : nat_abs (required requirements 2) ≤ most_zone_requirement
-  pub short_term : nat_abs (required requirements 3) ≤ most_zone_requirement
+pub record SmallRequirements (requirements : (PerCurve Kw)) : Type 0 where
+  pub operating : nat_abs requirements.operating.0 ≤ most_zone_requirement
+  pub regulating_plus_spinning : nat_abs requirements.regulating_plus_spinning.0 ≤ most_zone_requirement
+  pub regulating : nat_abs requirements.regulating.0 ≤ most_zone_requirement
+  pub short_term : nat_abs requirements.short_term.0 ≤ most_zone_requirement
 
 -- a step, of a resource or of a curve, at most so wide
 pub record SmallStep (step : Step) (widest : ℕ) : Type 0 where
@@ -81,9 +80,9 @@ pub record SmallStep (step : Step) (widest : ℕ) : Type 0 where
   pub price : SmallOffer step.price
 
 -- the widths of an offer's steps together are at most what a resource can produce
-abbrev pub steps_width : OfferSteps → ℕ → ℕ
+abbrev pub steps_width : (List Step) → ℕ → ℕ
 steps_width offered n = total_of (λ j. nat_abs (offer_step offered j).width.0) (upto n)
 
-pub record SmallSteps (offered : OfferSteps) : Type 0 where
+pub record SmallSteps (offered : (List Step)) : Type 0 where
   pub price : (j : ℕ) → j < energy_steps → SmallOffer (offer_step offered j).price
   pub together : steps_width offered energy_steps ≤ most_power

@@ -1,12 +1,11 @@
 -- The terms of the bound: from the bytes, and from the records that are read of them (01, 'Certificate, cost, bound, charges').
-use Rattle.std.specs.Prelude.{Bool, cond, List, ℕ, get_or, ℤ, pos, ◌+ℤ◌, ◌-ℤ◌, ◌*ℤ◌}
+use Rattle.market.specs.declared.PerCurve.{PerCurve}
+use Rattle.std.specs.Prelude.{Bool, cond, List, ℕ, ℤ, pos, ◌+ℤ◌, ◌-ℤ◌, ◌*ℤ◌}
 use Rattle.arith.specs.Sums.{min_ℤ, sum_of}
 use Rattle.market.specs.declared.Kw.{Kw}
 use Rattle.market.specs.declared.Millicents.{Millicents}
 use Rattle.market.specs.declared.Step.{Step}
 use Rattle.market.specs.declared.LimitPrices.{LimitPrices}
-use Rattle.market.specs.declared.ReservePrices.{ReservePrices}
-use Rattle.market.specs.declared.ZoneRequirements.{ZoneRequirements}
 use Rattle.market.specs.Case.{curves}
 use Rattle.market.specs.CaseFile.{case_of}
 use Rattle.market.specs.Rows.{Row, zone_row, flowgate_row, limit_row, limits, right_side}
@@ -16,7 +15,7 @@ use Rattle.market.specs.Bound.{lowest}
 use Rattle.market.specs.Records.{power}
 use Rattle.limits.specs.declared.ReserveBounds.{ReserveBounds}
 use Rattle.limits.specs.declared.ResourceLimits.{ResourceLimits}
-use Rattle.net_prices.specs.declared.Nets.{Nets}
+use Rattle.market.specs.declared.PerService.{PerService}
 
 -- ---- of the bytes
 -- row price × right side
@@ -46,12 +45,9 @@ resource_terms b q i = limit_terms b q i +ℤ least_terms b q i
 
 -- ---- of records
 -- the rows of a zone: prices × requirements
-abbrev pub required : ZoneRequirements → ℕ → ℤ
-required requirements k = (get_or requirements.of k (power 0)).0
-
-unfoldable pub zone_value : ReservePrices → ZoneRequirements → ℤ
+unfoldable pub zone_value : (PerCurve Millicents) → (PerCurve Kw) → ℤ
 zone_value prices requirements =
-    prices.operating.0 *ℤ required requirements 0 +ℤ (prices.regulating_plus_spinning.0 *ℤ required requirements 1 +ℤ (prices.regulating.0 *ℤ required requirements 2 +ℤ prices.short_term.0 *ℤ required requirements 3))
+    prices.operating.0 *ℤ requirements.operating.0 +ℤ (prices.regulating_plus_spinning.0 *ℤ requirements.regulating_plus_spinning.0 +ℤ (prices.regulating.0 *ℤ requirements.regulating.0 +ℤ prices.short_term.0 *ℤ requirements.short_term.0))
 
 -- the rows of a resource: those from below less those from above
 unfoldable pub limit_value : LimitPrices → ResourceLimits → ℤ
@@ -67,10 +63,10 @@ least_of net upper = min_ℤ (pos 0) (net *ℤ upper)
 abbrev pub step_bound : Bool → Kw → Kw
 step_bound on width = cond on width (power 0)
 
-unfoldable pub step_least : Nets → Bool → Step → ℤ
+unfoldable pub step_least : (PerService Millicents) → Bool → Step → ℤ
 step_least nets on step = least_of (pos 1000 *ℤ step.price.0 +ℤ nets.energy.0) (step_bound on step.width).0
 
-unfoldable pub reserves_least : Nets → ReserveBounds → ℤ
+unfoldable pub reserves_least : (PerService Millicents) → ReserveBounds → ℤ
 reserves_least nets bounds =
     least_of nets.regulation.0 bounds.regulation.0
     +ℤ (least_of nets.contingency.0 bounds.contingency.0

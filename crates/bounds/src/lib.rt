@@ -6,9 +6,7 @@
 ghost use Rattle.std.specs.Prelude.{◌≡◌, ◌+◌, ◌*◌, ◌<◌, ◌≤◌, nat_abs, ◌+ℤ◌, ◌-ℤ◌, ◌*ℤ◌};
 ghost use Rattle.arith.specs.Sums.{sum_of, upto, across};
 ghost use Rattle.market.specs.Case.{curves};
-ghost use Rattle.market.specs.CaseFile.{case_of};
 ghost use Rattle.market.specs.Rows.{balance_row};
-ghost use Rattle.market.specs.Certificate.{certificate_of};
 ghost use Rattle.market.specs.Cost.{curve_priced};
 ghost use Rattle.market.specs.Bound.{bound};
 ghost use Rattle.market.specs.Records.{grains};
@@ -18,17 +16,18 @@ ghost use Rattle.market.specs.Sizes.{most_power, most_curve_width, most_price, m
 ghost use Rattle.case_records.specs.Ranged.{RangedCurve, curve_step};
 ghost use Rattle.capabilities.specs.Sizes.{SmallLimits, SmallBounds};
 ghost use Rattle.units.specs.Room.{SumRoom, ProductRoom};
-ghost use Rattle.prices.specs.Standing.{PricesStand, Standing};
 ghost use Rattle.prices.specs.ZonePrices.{SmallPrices};
 ghost use Rattle.net_prices.specs.Sizes.{SmallPrice, SmallNets, SmallLimitPrices};
 ghost use Rattle.bounds.specs.Sizes.{most_zone_terms, most_flowgate_term, most_common_terms, most_limit_terms, most_reserve_terms, most_resource_terms, most_curve_step_term, most_curve_terms, most_curves_terms, Figure, RowRoom, SmallRequirements, SmallStep};
 ghost use Rattle.bounds.specs.Terms.{row_term, priced_term, zone_terms, flowgate_term, resource_terms, zone_value, limit_value, least_of, step_bound, step_least, reserves_least, curve_step_least};
+ghost use Rattle.prices.specs.PricedCase.{the_case, the_prices, case_bytes, certificate_bytes};
 
 use limits::{ReserveBounds, ResourceLimits};
 use market::{
-    CurveSteps, Grains, Kw, LimitPrices, Millicents, ReservePrices, Step, Watts, ZoneRequirements,
+    CurveAmounts, CurveSteps, Grains, Kw, LimitPrices, Millicents, ReservePrices, Step, Watts,
 };
 use net_prices::Nets;
+use prices::{BoundedCase, PricedCase};
 
 // ---- figures in grains, with how large they can be
 
@@ -36,14 +35,14 @@ pub fn plus(a: Grains, b: Grains) -> Grains
     requires { SumRoom a.0 b.0 }
     ensures { Figure result (a.0 +ℤ b.0) (nat_abs a.0 + nat_abs b.0) }
 {
-    units::grains_sum(a, b)
+    units::sum(a, b)
 }
 
 fn minus(a: Grains, b: Grains) -> Grains
     requires { SumRoom a.0 b.0 }
     ensures { Figure result (a.0 -ℤ b.0) (nat_abs a.0 + nat_abs b.0) }
 {
-    units::grains_difference(a, b)
+    units::difference(a, b)
 }
 
 // The price of a row times a right side.
@@ -65,38 +64,39 @@ pub fn least_of(net: Millicents, upper: Kw) -> Grains
 
 // ---- rows: of zones
 
-fn zone_value(prices: ReservePrices, needed: ZoneRequirements) -> Grains
+fn zone_value(prices: ReservePrices, needed: CurveAmounts) -> Grains
     requires { SmallPrices prices × SmallRequirements needed }
     ensures { Figure result (zone_value prices needed) most_zone_terms }
 {
-    let operating = worth(prices.operating, needed.of[0]);
-    let both = worth(prices.regulating_plus_spinning, needed.of[1]);
-    let regulating = worth(prices.regulating, needed.of[2]);
-    let short_term = worth(prices.short_term, needed.of[3]);
+    let operating = worth(prices.operating, needed.operating);
+    let both = worth(
+        prices.regulating_plus_spinning,
+        needed.regulating_plus_spinning,
+    );
+    let regulating = worth(prices.regulating, needed.regulating);
+    let short_term = worth(prices.short_term, needed.short_term);
     let last = plus(regulating, short_term);
     let rest = plus(both, last);
     plus(operating, rest)
 }
 
-fn zone_terms(b: &[u8], q: &[u8], r: usize, z: usize, f: usize, zone: usize) -> Grains
-    requires { PricesStand b.now q.now r z f × (zone < z) }
-    ensures { Figure result (zone_terms b.now q.now zone) most_zone_terms }
+fn zone_terms(priced: &PricedCase<'_>, zone: usize) -> Grains
+    requires { zone < priced.now.case.zones }
+    ensures { Figure result (zone_terms (case_bytes priced.now) (certificate_bytes priced.now) zone) most_zone_terms }
 {
-    let prices = certificate_records::zone_prices_at(q, r, z, f, zone);
-    let needed = case_reader::zone_at(b, r, z, f, zone);
+    let prices = priced.certificate.zone_prices(zone);
+    let needed = priced.case.zone(zone);
     zone_value(prices, needed)
 }
 
-fn zones_sum(b: &[u8], q: &[u8], r: usize, z: usize, f: usize) -> Grains
-    requires { PricesStand b.now q.now r z f }
-    ensures { Figure result (sum_of (zone_terms b.now q.now) (upto z)) (most_zones * most_zone_terms) }
+#[tactic(auto, using(arith::proofs::SumSteps::sum_steps))]
+fn zones_sum(priced: &PricedCase<'_>) -> Grains
+    ensures { Figure result (sum_of (zone_terms (case_bytes priced.now) (certificate_bytes priced.now)) (upto priced.now.case.zones)) (most_zones * most_zone_terms) }
 {
     let mut sum = Grains(0);
-    let mut y: usize = 0;
-    while y < z {
-        let terms = zone_terms(b, q, r, z, f, y);
+    for zone in 0..priced.case.zones {
+        let terms = zone_terms(priced, zone);
         sum = plus(sum, terms);
-        y += 1;
     }
     sum
 }
@@ -104,27 +104,25 @@ fn zones_sum(b: &[u8], q: &[u8], r: usize, z: usize, f: usize) -> Grains
 // ---- of flowgates
 
 // 'At least': the limit stands on the right with its sign turned.
-fn flowgate_term(b: &[u8], q: &[u8], r: usize, z: usize, f: usize, flowgate: usize) -> Grains
-    requires { PricesStand b.now q.now r z f × (flowgate < f) }
-    ensures { Figure result (flowgate_term b.now q.now flowgate) most_flowgate_term }
+fn flowgate_term(priced: &PricedCase<'_>, flowgate: usize) -> Grains
+    requires { flowgate < priced.now.case.flowgates }
+    ensures { Figure result (flowgate_term (case_bytes priced.now) (certificate_bytes priced.now) flowgate) most_flowgate_term }
 {
-    let price = certificate_records::flowgate_price_at(q, r, z, f, flowgate);
-    let limit = case_reader::flowgate_limit_at(b, r, z, f, flowgate);
+    let price = priced.certificate.flowgate_price(flowgate);
+    let limit = priced.case.flowgate_limit(flowgate);
     let most = units::in_watts(limit);
-    let side = units::watts_difference(Watts(0), most);
+    let side = units::difference(Watts(0), most);
     units::flow_value(price, side)
 }
 
-fn flowgates_sum(b: &[u8], q: &[u8], r: usize, z: usize, f: usize) -> Grains
-    requires { PricesStand b.now q.now r z f }
-    ensures { Figure result (sum_of (flowgate_term b.now q.now) (upto f)) (most_flowgates * most_flowgate_term) }
+#[tactic(auto, using(arith::proofs::SumSteps::sum_steps))]
+fn flowgates_sum(priced: &PricedCase<'_>) -> Grains
+    ensures { Figure result (sum_of (flowgate_term (case_bytes priced.now) (certificate_bytes priced.now)) (upto priced.now.case.flowgates)) (most_flowgates * most_flowgate_term) }
 {
     let mut sum = Grains(0);
-    let mut y: usize = 0;
-    while y < f {
-        let term = flowgate_term(b, q, r, z, f, y);
+    for flowgate in 0..priced.case.flowgates {
+        let term = flowgate_term(priced, flowgate);
         sum = plus(sum, term);
-        y += 1;
     }
     sum
 }
@@ -150,15 +148,14 @@ pub fn limit_value(prices: LimitPrices, held: ResourceLimits) -> Grains
 // ---- of no resource
 
 // A market row's right side is 0.
-fn common_terms(b: &[u8], q: &[u8], r: usize, z: usize, f: usize) -> Grains
-    requires { PricesStand b.now q.now r z f }
-    ensures { Figure result (row_term b.now q.now balance_row +ℤ (sum_of (zone_terms b.now q.now) (upto z) +ℤ sum_of (flowgate_term b.now q.now) (upto f))) most_common_terms }
+fn common_terms(priced: &PricedCase<'_>) -> Grains
+    ensures { Figure result (row_term (case_bytes priced.now) (certificate_bytes priced.now) balance_row +ℤ (sum_of (zone_terms (case_bytes priced.now) (certificate_bytes priced.now)) (upto priced.now.case.zones) +ℤ sum_of (flowgate_term (case_bytes priced.now) (certificate_bytes priced.now)) (upto priced.now.case.flowgates))) most_common_terms }
 {
-    let price = certificate_records::balance_price(q, r, z, f);
-    let demand = case_reader::demand(b, r, z, f);
+    let price = priced.certificate.balance_price();
+    let demand = priced.case.demand();
     let balance = worth(price, demand);
-    let zones = zones_sum(b, q, r, z, f);
-    let flowgates = flowgates_sum(b, q, r, z, f);
+    let zones = zones_sum(priced);
+    let flowgates = flowgates_sum(priced);
     let rest = plus(zones, flowgates);
     plus(balance, rest)
 }
@@ -210,33 +207,27 @@ fn curve_step_least(price: Millicents, step: Step) -> Grains
     least_of(net, step.width)
 }
 
+#[tactic(auto, using(arith::proofs::SumSteps::sum_steps))]
 fn curve_least(price: Millicents, curve: CurveSteps) -> Grains
     requires { SmallPrice price × RangedCurve curve }
     ensures { Figure result (sum_of (λ j. curve_step_least price (curve_step curve j)) (upto 4)) most_curve_terms }
 {
     let mut sum = Grains(0);
-    let mut j: usize = 0;
-    while j < 4 {
-        let step = curve.of[j];
-        let least = curve_step_least(price, step);
+    for step in &curve {
+        let least = curve_step_least(price, *step);
         sum = plus(sum, least);
-        j += 1;
     }
     sum
 }
 
-fn curves_least(b: &[u8], q: &[u8], r: usize, z: usize, f: usize) -> Grains
-    requires { PricesStand b.now q.now r z f }
-    ensures { Figure result (sum_of (priced_term b.now q.now) (across curve_priced curves)) most_curves_terms }
+fn curves_least(priced: &PricedCase<'_>) -> Grains
+    ensures { Figure result (sum_of (priced_term (case_bytes priced.now) (certificate_bytes priced.now)) (across curve_priced curves)) most_curves_terms }
 {
-    let prices = certificate_records::market_prices(q, r, z, f);
-    let operating = curve_least(prices.operating, case_reader::curve_at(b, r, z, f, 0));
-    let both = curve_least(
-        prices.regulating_plus_spinning,
-        case_reader::curve_at(b, r, z, f, 1),
-    );
-    let regulating = curve_least(prices.regulating, case_reader::curve_at(b, r, z, f, 2));
-    let short_term = curve_least(prices.short_term, case_reader::curve_at(b, r, z, f, 3));
+    let prices = priced.certificate.market_prices();
+    let operating = curve_least(prices.operating, priced.case.curve(0));
+    let both = curve_least(prices.regulating_plus_spinning, priced.case.curve(1));
+    let regulating = curve_least(prices.regulating, priced.case.curve(2));
+    let short_term = curve_least(prices.short_term, priced.case.curve(3));
     let last = plus(regulating, short_term);
     let rest = plus(both, last);
     plus(operating, rest)
@@ -245,12 +236,12 @@ fn curves_least(b: &[u8], q: &[u8], r: usize, z: usize, f: usize) -> Grains
 // ---- the bound
 
 // Of what the resources add together, `resources`.
-pub fn bound(b: &[u8], q: &[u8], r: usize, z: usize, f: usize, resources: Grains) -> Grains
-    requires { Standing b.now q.now r z f × Figure resources (sum_of (resource_terms b.now q.now) (upto r)) (most_resources * most_resource_terms) }
-    ensures { result ≡ grains (bound (case_of b.now) (certificate_of q.now).price) }
+pub fn bound(bounded: &BoundedCase<'_>, resources: Grains) -> Grains
+    requires { Figure resources (sum_of (resource_terms (case_bytes bounded.now.priced) (certificate_bytes bounded.now.priced)) (upto bounded.now.priced.case.resources)) (most_resources * most_resource_terms) }
+    ensures { result ≡ grains (bound (the_case bounded.now.priced) (the_prices bounded.now.priced)) }
 {
-    let common = common_terms(b, q, r, z, f);
-    let cleared = curves_least(b, q, r, z, f);
+    let common = common_terms(&bounded.priced);
+    let cleared = curves_least(&bounded.priced);
     let rest = plus(resources, cleared);
     plus(common, rest)
 }

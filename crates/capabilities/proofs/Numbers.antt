@@ -9,7 +9,7 @@ use lib.IntN.{ℤ, pos, nat_abs}
 use lib.ListN.{length, drop, get_or, length-append}
 use lib.Seq.{get_or-take, get_or-drop}
 use mir.Syntax.{w32}
-use mir.Val.{of_z, SFits}
+use mir.Val.{of_z, to_z, SFits, bool_byte}
 use Rattle.arith.proofs.Magnitudes.{fits-abs}
 use Rattle.market.specs.Case.{Case}
 use Rattle.arith.specs.Sums.{upto, across}
@@ -34,7 +34,11 @@ first_number c i kept h =
 pub fits_32 : (v : ℤ) → nat_abs v ≤ 4000000 → SFits w32 v
 fits_32 v h = fits-abs (omega arith)
 
--- a test that is kept as a number, by its bits
+-- a test that is kept as a number: what is stored, and what its bits say
+pub bit_stored : (t : Bool) → to_z w32 (of_z w32 (pos (bool_byte t))) ≡ number_of t
+bit_stored true = refl
+bit_stored false = refl
+
 pub bit_of : (t : Bool) → eqb (of_z w32 (number_of t)) 1 ≡ t
 bit_of true = refl
 bit_of false = refl

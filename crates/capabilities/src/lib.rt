@@ -5,19 +5,23 @@
 
 ghost use Rattle.std.specs.Prelude.{◌≡◌, ◌++◌, ℕ, ◌+◌, ◌*◌, ◌<◌, ◌≤◌, pos, nat_abs, length, drop, get_or};
 ghost use Rattle.market.specs.Case.{Case, Resource as Figures};
-ghost use Rattle.market.specs.CaseFile.{case_of};
 ghost use Rattle.market.specs.Availability.{on_line};
 ghost use Rattle.market.specs.Rows.{is_spinning};
 ghost use Rattle.market.specs.Outcome.{Valid};
 ghost use Rattle.market.specs.Records.{kw, record_of, terms_of};
-ghost use Rattle.case_records.specs.Places.{CaseBytes};
+ghost use Rattle.case_reader.specs.Reader.{case_in};
 ghost use Rattle.case_records.specs.Ranged.{Ranged};
 ghost use Rattle.limits.specs.Together.{limits_of, TermsRanged, reserve_bounds_of};
 ghost use Rattle.capabilities.specs.Kept.{capability_of, number_of, numbers_of, number_count, numbers_in, Kept, KeptFor};
 ghost use Rattle.capabilities.specs.Sizes.{SmallCapability};
 
+use case_reader::CaseReader;
 use limits::{ReserveBounds, ResourceLimits};
 use market::{Kw, MOST_RESOURCES, Resource, Terms};
+
+mod kept_case;
+
+pub use kept_case::KeptCase;
 
 // What a resource can do in the interval.
 #[derive(Clone, Copy, Drop)]
@@ -33,6 +37,7 @@ pub const NUMBERS: usize = 10;
 
 pub const MOST_NUMBERS: usize = MOST_RESOURCES * NUMBERS;
 
+#[tactic(auto, using(limits::proofs::ByKind::on_line_is), unfolding(crate::specs::Kept::capability_of, limits::specs::Together::limits_of, market::specs::Records::record_of))]
 fn capability_of(terms: Terms, r: Resource) -> Capability
     requires { TermsRanged terms × Ranged r }
     ensures { (c : Case) (s : Figures) → terms ≡ terms_of c → r ≡ record_of s → result ≡ capability_of c s }
@@ -52,21 +57,11 @@ fn capability_of(terms: Terms, r: Resource) -> Capability
 
 // ---- into numbers
 
-fn bit(t: bool) -> i32
-    ensures { result ≡ number_of t }
-{
-    if t {
-        return 1;
-    }
-    0
-}
-
 fn number(a: Kw) -> i32
     requires { nat_abs a.0 ≤ 4000000 }
     ensures { result ≡ a.0 }
 {
-    let wide = a.0;
-    wide as i32
+    a.0 as i32
 }
 
 fn write_capability(k: Capability, out: &mut [i32])
@@ -75,8 +70,8 @@ fn write_capability(k: Capability, out: &mut [i32])
 {
     let limits = k.limits;
     let bounds = k.bounds;
-    out[0] = bit(k.on_line);
-    out[1] = bit(k.spinning);
+    out[0] = i32::from(k.on_line);
+    out[1] = i32::from(k.spinning);
     out[2] = number(limits.max);
     out[3] = number(limits.min);
     out[4] = number(limits.high);
@@ -88,28 +83,25 @@ fn write_capability(k: Capability, out: &mut [i32])
 }
 
 // Of resource i.
-fn write_resource(b: &[u8], r: usize, z: usize, f: usize, i: usize, terms: Terms, out: &mut [i32])
-    requires case_bytes { (CaseBytes b.now r z f × Valid b.now) × ((i < r) × (terms ≡ terms_of (case_of b.now))) }
+fn write_resource(case: &CaseReader<'_>, i: usize, terms: Terms, out: &mut [i32])
+    requires valid { Valid case.now.bytes.now }
+    requires resource { (i < case.now.resources) × (terms ≡ terms_of (case_in case.now)) }
     requires number_count_in_bounds { number_count ≤ length out.old }
-    ensures { out.new ≡ numbers_in (case_of b.now) i ++ drop number_count out.old }
+    ensures { out.new ≡ numbers_in (case_in case.now) i ++ drop number_count out.old }
 {
-    let resource = case_reader::resource_at(b, r, z, f, i);
+    let resource = case.resource(i);
     let one = capability_of(terms, resource);
     write_capability(one, out);
 }
 
 // Of every resource, each from its own place on.
-pub fn write_capabilities(b: &[u8], r: usize, z: usize, f: usize, out: &mut [i32])
-    requires { (CaseBytes b.now r z f × Valid b.now) × (r * number_count ≤ length out.old) }
-    ensures { Kept (case_of b.now) r out.new }
+pub fn write_capabilities(case: &CaseReader<'_>, out: &mut [i32])
+    requires { Valid case.now.bytes.now × (case.now.resources * number_count ≤ length out.old) }
+    ensures { Kept (case_in case.now) case.now.resources out.new }
 {
-    let terms = case_reader::terms_in(b, r, z, f);
-    let mut i: usize = 0;
-    let mut at: usize = 0;
-    while i < r {
-        write_resource(b, r, z, f, i, terms, &mut out[at..]);
-        at += NUMBERS;
-        i += 1;
+    let terms = case.terms();
+    for i in 0..case.resources {
+        write_resource(case, i, terms, &mut out[i * NUMBERS..]);
     }
 }
 

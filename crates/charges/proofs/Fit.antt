@@ -1,4 +1,5 @@
 -- Each charge fits a signed 64-bit number: net price, amount and upper bound are small enough.
+use mathlib.Core.List.{List}
 use Prim.Native.Nat.{ℕ, ◌+◌, ◌*◌, ◌<◌, ◌≤◌}
 use native.Mathlib.Nat.{mul-le-mul}
 use native.Mathlib.Omega.{arith}
@@ -10,11 +11,9 @@ use Rattle.market.specs.Fits.{range64}
 use Rattle.market.specs.Sizes.{most_power, most_curve_width}
 use Rattle.market.specs.Records.{power}
 use Rattle.market.proofs.Steps.{filled_below}
-use Rattle.market.specs.declared.CurveSteps.{CurveSteps}
 use Rattle.market.specs.declared.Grains.{Grains}
 use Rattle.market.specs.declared.Kw.{Kw}
 use Rattle.market.specs.declared.Millicents.{Millicents}
-use Rattle.market.specs.declared.OfferSteps.{OfferSteps}
 use Rattle.market.specs.declared.Step.{Step}
 use Rattle.case_records.specs.Ranged.{RangedSteps, RangedCurve, offer_step, curve_step}
 use Rattle.units.specs.Room.{SumRoom}
@@ -46,8 +45,8 @@ step_room {steps} known x j l =
       part = omega (arith, filled_below (widths_of steps) x j, (known.width j l).at_most);
     }
 
-pub offer_step_room : {o : OfferSteps} → RangedSteps o → (x j : ℕ) → j < energy_steps → StepRoom (offer_step o j) (power (filled (widths_of (offer_step o)) x j)) most_power
+pub offer_step_room : {o : (List Step)} → RangedSteps o → (x j : ℕ) → j < energy_steps → StepRoom (offer_step o j) (power (filled (widths_of (offer_step o)) x j)) most_power
 offer_step_room h = step_room (offer_ranges h)
 
-pub curve_step_room : {o : CurveSteps} → RangedCurve o → (x j : ℕ) → j < curve_steps → StepRoom (curve_step o j) (power (filled (widths_of (curve_step o)) x j)) most_curve_width
+pub curve_step_room : {o : (List Step)} → RangedCurve o → (x j : ℕ) → j < curve_steps → StepRoom (curve_step o j) (power (filled (widths_of (curve_step o)) x j)) most_curve_width
 curve_step_room h = step_room (curve_ranges h)

@@ -1,5 +1,7 @@
 -- What is known of the records that are read of a standing case and certificate: that they are small enough for their
 -- charges, and that they make the definition's lists.
+use Rattle.market.specs.declared.Step.{Step}
+use Rattle.market.specs.declared.PerService.{PerService}
 use mathlib.Core.Path.{◌≡◌, refl, ap, ◌∙◌}
 use mathlib.Core.Bool.{Bool}
 use mathlib.Core.List.{List, ◌++◌, map}
@@ -19,16 +21,13 @@ use Rattle.market.specs.Cost.{curve_priced, priced, resource_priced_count, price
 use Rattle.market.specs.Charges.{row_charge, priced_charge, charges, charge_count}
 use Rattle.market.specs.Sizes.{most_power}
 use Rattle.market.specs.Records.{power, millicents, offer_steps_of, amounts_of, curve_steps_of}
-use Rattle.market.specs.declared.Amounts.{Amounts}
 use Rattle.market.specs.declared.Kw.{Kw}
 use Rattle.market.specs.declared.Millicents.{Millicents}
-use Rattle.market.specs.declared.OfferSteps.{OfferSteps}
 use Rattle.market.proofs.Lengths.{row_count_lem}
 use Rattle.market.proofs.ScheduleSizes.{amount_of}
 use Rattle.case_records.proofs.Places.{resources_is, zones_is, flowgates_is}
 use Rattle.prices.specs.Standing.{Standing}
 use Rattle.prices.proofs.Known.{case_ranges, prices_in_range, resource_below}
-use Rattle.net_prices.specs.declared.Nets.{Nets}
 use Rattle.net_prices.specs.NetPrices.{nets_of}
 use Rattle.net_prices.specs.Sizes.{SmallNets}
 use Rattle.net_prices.proofs.Known.{nets_small}
@@ -57,13 +56,13 @@ module _ {b q : List ℕ} {r z f : ℕ} (s : Standing b q r z f) where
     given_most : (v : Service) → x (provided_quantity i v) ≤ most_power
     given_most v = amount_of c (case_ranges s.prices) x s.bounded (provided_quantity i v) (resource_below s.prices l)
 
-    pub nets_fit : {n : Nets} → n ≡ nets_of c y i → SmallNets n
+    pub nets_fit : {n : (PerService Millicents)} → n ≡ nets_of c y i → SmallNets n
     nets_fit e = rw e (nets_small c y (case_ranges s.prices) (prices_in_range s.prices) i (resource_below s.prices l))
 
-    pub steps_fit : {o : OfferSteps} {a : Amounts} → o ≡ offer_steps_of (c.resource i) → a ≡ amounts_of x i → StepsRoom o a.energy
+    pub steps_fit : {o : (List Step)} {a : (PerService Kw)} → o ≡ offer_steps_of (c.resource i) → a ≡ amounts_of x i → StepsRoom o a.energy
     steps_fit e d = rw (e, d) (record { steps = steps_known s i l; provided = energy_known s i l })
 
-    pub reserves_fit : {a : Amounts} → a ≡ amounts_of x i → SmallReserves a
+    pub reserves_fit : {a : (PerService Kw)} → a ≡ amounts_of x i → SmallReserves a
     unfolding amounts_of
     reserves_fit e =
         rw e
@@ -78,7 +77,7 @@ module _ {b q : List ℕ} {r z f : ℕ} (s : Standing b q r z f) where
     bounds_fit e = rw e (bounds_small c (case_ranges s.prices) i (resource_below s.prices l))
 
     -- ten steps, then reserves
-    pub resource_listed : {n : Nets} {on : Bool} {o : OfferSteps} {a : Amounts} {u : ReserveBounds} →
+    pub resource_listed : {n : (PerService Millicents)} {on : Bool} {o : (List Step)} {a : (PerService Kw)} {u : ReserveBounds} →
         n ≡ nets_of c y i → on ≡ on_line (c.resource i) → o ≡ offer_steps_of (c.resource i) → a ≡ amounts_of x i → u ≡ reserve_bounds_of c (c.resource i) →
         map (energy_charge n on o (nat_abs a.energy.0)) (upto energy_steps) ++ reserve_charges n a u ≡ resource_charges b q i
     unfolding amounts_of

@@ -7,27 +7,28 @@ ghost use Rattle.std.specs.Prelude.{◌≡◌, map, ◌++◌, ◌+◌, ◌*◌, 
 ghost use Rattle.arith.specs.Sums.{upto, across};
 ghost use Rattle.market.specs.Case.{curves, curve_numbered};
 ghost use Rattle.market.specs.CaseFile.{case_of};
-ghost use Rattle.market.specs.Certificate.{certificate_of};
 ghost use Rattle.market.specs.Cost.{curve_priced, priced, resource_priced_count, curve_priced_count, priced_count_of};
 ghost use Rattle.market.specs.Charges.{priced_charge, charges, charge_count, charge_count_of};
 ghost use Rattle.market.specs.Prices.{lmp_of};
 ghost use Rattle.market.specs.Records.{grains, millicents, curve_steps_of};
 ghost use Rattle.market.specs.Sizes.{most_power, most_curve_width};
-ghost use Rattle.case_records.specs.Places.{CurveIn};
-ghost use Rattle.capabilities.specs.Kept.{Kept};
 ghost use Rattle.capabilities.specs.Sizes.{SmallBounds};
-ghost use Rattle.prices.specs.Standing.{Standing};
 ghost use Rattle.prices.specs.Written.{Lmps};
 ghost use Rattle.net_prices.specs.Sizes.{SmallPrice, SmallNets};
 ghost use Rattle.charges.specs.Sizes.{ChargeRoom, StepRoom, StepsRoom, SmallReserves, CurveRoom, ClearedRoom};
 ghost use Rattle.charges.specs.Terms.{charge_in, resource_charges, charge_of, step_charge, energy_charge, reserve_charges, curve_step_charge, curve_charge, cleared_curve, curve_charges};
+ghost use Rattle.case_reader.specs.Reader.{case_in};
+ghost use Rattle.prices.specs.PricedCase.{the_case, the_prices, the_amounts, case_bytes, certificate_bytes};
 
+use capabilities::KeptCase;
+use case_reader::CaseReader;
 use limits::ReserveBounds;
 use market::{
     Amounts, CurveSteps, Grains, Kw, MOST_RESOURCES, Millicents, OfferSteps, RESOURCE_PRICED,
     RESOURCE_ROWS, SYSTEM_ROWS, Step, ZONE_ROWS,
 };
 use net_prices::Nets;
+use prices::BoundedCase;
 
 // What an amount adds at its net price, beyond the least that it could add up to its upper bound.
 fn quantity_charge(net: Millicents, amount: Kw, upper: Kw) -> Grains
@@ -36,12 +37,13 @@ fn quantity_charge(net: Millicents, amount: Kw, upper: Kw) -> Grains
 {
     let added = units::value(net, amount);
     let least = bounds::least_of(net, upper);
-    units::grains_difference(added, least)
+    units::difference(added, least)
 }
 
 // ---- a resource
 
 // Of an energy step, by what fills it.
+#[tactic(auto, unfolding(crate::specs::Terms::step_charge))]
 fn step_charge(prices: Nets, on: bool, step: Step, part: Kw) -> Grains
     requires { SmallNets prices × StepRoom step part most_power }
     ensures { result ≡ grains (step_charge prices on step part.0) }
@@ -51,25 +53,23 @@ fn step_charge(prices: Nets, on: bool, step: Step, part: Kw) -> Grains
     quantity_charge(net, part, upper)
 }
 
-// The ten energy steps, filled in order.
+// The ten energy steps, filled in order. `write_curve` differs in a step's charge: one function of both would have to say of each
+// step, by a closure's `pre` and `post`, what each of the two says in one clause.
 fn write_steps(prices: Nets, on: bool, steps: OfferSteps, energy: Kw, out: &mut [i64])
     requires { (SmallNets prices × StepsRoom steps energy) × (10 ≤ length out.old) }
     ensures { out.new ≡ map (energy_charge prices on steps (nat_abs energy.0)) (upto 10) ++ drop 10 out.old }
 {
     let mut left = energy;
-    let mut j: usize = 0;
-    while j < 10 {
-        let step = steps.of[j];
+    for (j, step) in steps.iter().enumerate() {
         let filled = costs::fill(left, step.width);
-        let charge = step_charge(prices, on, step, filled.part);
-        let number = charge.0;
-        out[j] = number;
+        let charge = step_charge(prices, on, *step, filled.part);
+        out[j] = charge.0;
         left = filled.left;
-        j += 1;
     }
 }
 
 // g, c, s and o.
+#[tactic(auto, unfolding(crate::specs::Terms::reserve_charges))]
 fn write_reserves(prices: Nets, amounts: Amounts, uppers: ReserveBounds, out: &mut [i64])
     requires { (SmallNets prices × (SmallReserves amounts × SmallBounds uppers)) × (4 ≤ length out.old) }
     ensures { out.new ≡ reserve_charges prices amounts uppers ++ drop 4 out.old }
@@ -86,71 +86,43 @@ fn write_reserves(prices: Nets, amounts: Amounts, uppers: ReserveBounds, out: &m
         amounts.off_line_short_term,
         uppers.off_line_short_term,
     );
-    let first = regulation.0;
-    let second = contingency.0;
-    let third = on_line.0;
-    let fourth = off_line.0;
-    out[0] = first;
-    out[1] = second;
-    out[2] = third;
-    out[3] = fourth;
+    out[..4].copy_from_slice(&[regulation.0, contingency.0, on_line.0, off_line.0]);
 }
 
 // The fourteen charges of resource i, its LMP being `lmp`.
-fn write_resource(
-    b: &[u8],
-    q: &[u8],
-    r: usize,
-    z: usize,
-    f: usize,
-    i: usize,
-    kept: &[i32],
-    lmp: Millicents,
-    out: &mut [i64],
-)
-    requires standing { (Standing b.now q.now r z f × (i < r)) × ((resource_priced_count ≤ length out.old) × Kept (case_of b.now) r kept.now) }
-    requires lmp_value { lmp ≡ millicents (lmp_of (case_of b.now) (certificate_of q.now).price i) }
-    ensures { out.new ≡ resource_charges b.now q.now i ++ drop resource_priced_count out.old }
+fn write_resource(kept: &KeptCase<'_>, i: usize, lmp: Millicents, out: &mut [i64])
+    requires room { (i < kept.now.bounded.priced.case.resources) × (resource_priced_count ≤ length out.old) }
+    requires lmp_value { lmp ≡ millicents (lmp_of (the_case kept.now.bounded.priced) (the_prices kept.now.bounded.priced) i) }
+    ensures { out.new ≡ resource_charges (case_bytes kept.now.bounded.priced) (certificate_bytes kept.now.bounded.priced) i ++ drop resource_priced_count out.old }
 {
-    let resource = case_reader::resource_at(b, r, z, f, i);
-    let amounts = certificate_records::amounts_at(q, r, z, f, i);
-    let on = capabilities::on_line_at(kept, i);
-    let spins = capabilities::spinning_at(kept, i);
-    let uppers = capabilities::bounds_at(kept, i);
-    let prices = net_prices::nets_for(b, q, r, z, f, i, spins, lmp, resource);
-    let steps = case_reader::offer_steps_at(b, r, z, f, i);
+    let resource = kept.bounded.priced.case.resource(i);
+    let amounts = kept.bounded.priced.certificate.amounts(i);
+    let on = kept.on_line(i);
+    let spins = kept.spinning(i);
+    let uppers = kept.bounds(i);
+    let prices = net_prices::nets_for(&kept.bounded.priced, i, spins, lmp, resource);
+    let steps = kept.bounded.priced.case.offer_steps(i);
     write_steps(prices, on, steps, amounts.energy, out);
     write_reserves(prices, amounts, uppers, &mut out[10..]);
 }
 
 // Each resource's charges, from its own place on, with its LMP.
-fn write_resources(
-    b: &[u8],
-    q: &[u8],
-    r: usize,
-    z: usize,
-    f: usize,
-    kept: &[i32],
-    lmps: &[i64],
-    out: &mut [i64],
-)
-    requires standing { Standing b.now q.now r z f × ((r * resource_priced_count ≤ length out.old) × Kept (case_of b.now) r kept.now) }
-    requires lmps { Lmps b.now q.now r lmps.now }
-    ensures { out.new ≡ across (resource_charges b.now q.now) (upto r) ++ drop (r * resource_priced_count) out.old }
+#[tactic(auto, unfolding(arith::specs::Sums::upto, arith::specs::Sums::across))]
+fn write_resources(kept: &KeptCase<'_>, lmps: &[i64], out: &mut [i64])
+    requires room { kept.now.bounded.priced.case.resources * resource_priced_count ≤ length out.old }
+    requires lmps { Lmps (case_bytes kept.now.bounded.priced) (certificate_bytes kept.now.bounded.priced) kept.now.bounded.priced.case.resources lmps.now }
+    ensures { out.new ≡ across (resource_charges (case_bytes kept.now.bounded.priced) (certificate_bytes kept.now.bounded.priced)) (upto kept.now.bounded.priced.case.resources) ++ drop (kept.now.bounded.priced.case.resources * resource_priced_count) out.old }
 {
-    let mut i: usize = 0;
-    let mut at: usize = 0;
-    while i < r {
+    for i in 0..kept.bounded.priced.case.resources {
         let lmp = Millicents(lmps[i]);
-        write_resource(b, q, r, z, f, i, kept, lmp, &mut out[at..]);
-        at += RESOURCE_PRICED;
-        i += 1;
+        write_resource(kept, i, lmp, &mut out[i * RESOURCE_PRICED..]);
     }
 }
 
 // ---- the demand curves
 
 // Of a step of a curve whose market row has the price, by what fills it.
+#[tactic(auto, unfolding(crate::specs::Terms::curve_step_charge))]
 fn curve_step_charge(price: Millicents, step: Step, part: Kw) -> Grains
     requires { SmallPrice price × StepRoom step part most_curve_width }
     ensures { result ≡ grains (curve_step_charge price step part.0) }
@@ -165,15 +137,11 @@ fn write_curve(price: Millicents, curve: CurveSteps, cleared: Kw, out: &mut [i64
     ensures { out.new ≡ map (curve_charge price curve (nat_abs cleared.0)) (upto 4) ++ drop 4 out.old }
 {
     let mut left = cleared;
-    let mut j: usize = 0;
-    while j < 4 {
-        let step = curve.of[j];
+    for (j, step) in curve.iter().enumerate() {
         let filled = costs::fill(left, step.width);
-        let charge = curve_step_charge(price, step, filled.part);
-        let number = charge.0;
-        out[j] = number;
+        let charge = curve_step_charge(price, *step, filled.part);
+        out[j] = charge.0;
         left = filled.left;
-        j += 1;
     }
 }
 
@@ -186,23 +154,15 @@ struct ClearedCurve {
 }
 
 // The curve of number k, with these.
-fn cleared_curve(
-    b: &[u8],
-    r: usize,
-    z: usize,
-    f: usize,
-    k: usize,
-    price: Millicents,
-    cleared: Kw,
-) -> ClearedCurve
-    requires { CurveIn b.now k }
-    ensures { result ≡ cleared_curve price (curve_steps_of (case_of b.now) (curve_numbered k)) cleared }
+fn cleared_curve(case: &CaseReader<'_>, k: usize, price: Millicents, cleared: Kw) -> ClearedCurve
+    requires { k < length curves }
+    ensures { result ≡ cleared_curve price (curve_steps_of (case_in case.now) (curve_numbered k)) cleared }
 {
-    let steps = case_reader::curve_at(b, r, z, f, k);
+    let steps = case.curve(k);
     ClearedCurve {
-        price: price,
-        steps: steps,
-        cleared: cleared,
+        price,
+        steps,
+        cleared,
     }
 }
 
@@ -216,65 +176,59 @@ fn write_pair(first: ClearedCurve, second: ClearedCurve, out: &mut [i64])
 }
 
 // The four curves in order.
-fn write_curves(b: &[u8], q: &[u8], r: usize, z: usize, f: usize, out: &mut [i64])
-    requires { Standing b.now q.now r z f × (curve_priced_count ≤ length out.old) }
-    ensures { out.new ≡ map (charge_in b.now q.now) (across curve_priced curves) ++ drop curve_priced_count out.old }
+fn write_curves(bounded: &BoundedCase<'_>, out: &mut [i64])
+    requires { curve_priced_count ≤ length out.old }
+    ensures { out.new ≡ map (charge_in (case_bytes bounded.now.priced) (certificate_bytes bounded.now.priced)) (across curve_priced curves) ++ drop curve_priced_count out.old }
 {
-    let prices = certificate_records::market_prices(q, r, z, f);
-    let cleared = certificate_records::cleared(q, r, z, f);
-    let operating = cleared_curve(b, r, z, f, 0, prices.operating, cleared.operating);
+    let prices = bounded.priced.certificate.market_prices();
+    let cleared = bounded.priced.certificate.cleared();
+    let operating = cleared_curve(&bounded.priced.case, 0, prices.operating, cleared.operating);
     let both = cleared_curve(
-        b,
-        r,
-        z,
-        f,
+        &bounded.priced.case,
         1,
         prices.regulating_plus_spinning,
         cleared.regulating_plus_spinning,
     );
-    let regulating = cleared_curve(b, r, z, f, 2, prices.regulating, cleared.regulating);
-    let short_term = cleared_curve(b, r, z, f, 3, prices.short_term, cleared.short_term);
+    let regulating = cleared_curve(
+        &bounded.priced.case,
+        2,
+        prices.regulating,
+        cleared.regulating,
+    );
+    let short_term = cleared_curve(
+        &bounded.priced.case,
+        3,
+        prices.short_term,
+        cleared.short_term,
+    );
     write_pair(operating, both, out);
     write_pair(regulating, short_term, &mut out[8..]);
 }
 
 // ---- all that is priced
 
-fn write_priced_charges(
-    b: &[u8],
-    q: &[u8],
-    r: usize,
-    z: usize,
-    f: usize,
-    kept: &[i32],
-    out: &mut [i64],
-)
-    requires { Standing b.now q.now r z f × ((priced_count_of r ≤ length out.old) × Kept (case_of b.now) r kept.now) }
-    ensures { out.new ≡ map (priced_charge (case_of b.now) (certificate_of q.now).amount (certificate_of q.now).price) (priced (case_of b.now)) ++ drop (priced_count_of r) out.old }
+fn write_priced_charges(kept: &KeptCase<'_>, out: &mut [i64])
+    requires { priced_count_of kept.now.bounded.priced.case.resources ≤ length out.old }
+    ensures { out.new ≡ map (priced_charge (the_case kept.now.bounded.priced) (the_amounts kept.now.bounded.priced) (the_prices kept.now.bounded.priced)) (priced (the_case kept.now.bounded.priced)) ++ drop (priced_count_of kept.now.bounded.priced.case.resources) out.old }
 {
     let mut lmps = [0i64; MOST_RESOURCES];
-    prices::write_lmps(b, q, r, z, f, &mut lmps);
-    write_resources(b, q, r, z, f, kept, &lmps, out);
-    let at = r * RESOURCE_PRICED;
-    write_curves(b, q, r, z, f, &mut out[at..]);
+    kept.bounded.priced.write_lmps(&mut lmps);
+    write_resources(kept, &lmps, out);
+    let at = kept.bounded.priced.case.resources * RESOURCE_PRICED;
+    write_curves(&kept.bounded, &mut out[at..]);
 }
 
 // ---- all charges
 
 // The rows', then those of what is priced.
-pub fn write_charges(
-    b: &[u8],
-    q: &[u8],
-    r: usize,
-    z: usize,
-    f: usize,
-    kept: &[i32],
-    out: &mut [i64],
-)
-    requires { Standing b.now q.now r z f × ((charge_count_of r z f ≤ length out.old) × Kept (case_of b.now) r kept.now) }
-    ensures { out.new ≡ charges (case_of b.now) (certificate_of q.now).amount (certificate_of q.now).price ++ drop (charge_count (case_of b.now)) out.old }
+pub fn write_charges(kept: &KeptCase<'_>, out: &mut [i64])
+    requires { charge_count_of kept.now.bounded.priced.case.resources kept.now.bounded.priced.case.zones kept.now.bounded.priced.case.flowgates ≤ length out.old }
+    ensures { out.new ≡ charges (the_case kept.now.bounded.priced) (the_amounts kept.now.bounded.priced) (the_prices kept.now.bounded.priced) ++ drop (charge_count (the_case kept.now.bounded.priced)) out.old }
 {
-    row_charges::write_row_charges(b, q, r, z, f, kept, out);
-    let at = SYSTEM_ROWS + z * ZONE_ROWS + f + r * RESOURCE_ROWS;
-    write_priced_charges(b, q, r, z, f, kept, &mut out[at..]);
+    row_charges::write_row_charges(kept, out);
+    let at = SYSTEM_ROWS
+        + kept.bounded.priced.case.zones * ZONE_ROWS
+        + kept.bounded.priced.case.flowgates
+        + kept.bounded.priced.case.resources * RESOURCE_ROWS;
+    write_priced_charges(kept, &mut out[at..]);
 }

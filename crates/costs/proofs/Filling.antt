@@ -1,5 +1,6 @@
 -- Steps filled one after the other: from x kW on, what is left before step j is x less the widths before it, and what
 -- fills it is `filled w x j`. What the first steps are worth, and how large that can be.
+use mathlib.Core.List.{List}
 use mathlib.Core.Path.{◌≡◌, refl, ap, ◌∙◌}
 use Prim.Native.Nat.{ℕ, ◌+◌, ◌*◌, ◌-◌, ◌<◌, ◌≤◌, min}
 use native.Mathlib.Nat.{mul-le-mul}
@@ -17,8 +18,6 @@ use Rattle.market.specs.Records.{kw, power, cents}
 use Rattle.market.specs.declared.Step.{Step}
 use Rattle.market.specs.declared.Kw.{Kw}
 use Rattle.market.proofs.Steps.{filled_below}
-use Rattle.market.specs.declared.OfferSteps.{OfferSteps}
-use Rattle.market.specs.declared.CurveSteps.{CurveSteps}
 use Rattle.case_records.specs.Ranged.{UpTo, RangedSteps, RangedCurve, offer_step, curve_step}
 use Rattle.limits.specs.Widths.{widths_of}
 use Rattle.limits.proofs.Widths.{width_more, widths_same}
@@ -95,8 +94,8 @@ module _ {steps : ℕ → Step} {n widest : ℕ} (known : StepRanges steps n wid
       omega (arith, step_size j l, steps_size j (omega arith), mul-le-mul count most)
 
 -- ---- the steps of an offer, and of a curve
-pub offer_ranges : {o : OfferSteps} → RangedSteps o → StepRanges (offer_step o) 10 2000000
+pub offer_ranges : {o : (List Step)} → RangedSteps o → StepRanges (offer_step o) 10 2000000
 offer_ranges h = record { width = h.width; price = h.price }
 
-pub curve_ranges : {o : CurveSteps} → RangedCurve o → StepRanges (curve_step o) 4 8000000
+pub curve_ranges : {o : (List Step)} → RangedCurve o → StepRanges (curve_step o) 4 8000000
 curve_ranges h = record { width = h.width; price = λ j l. (h.price j l).at_most }

@@ -1,4 +1,6 @@
 -- The cost of a schedule, taken apart: resource by resource, energy steps and reserves, and curve by curve.
+use Rattle.market.specs.declared.PerService.{PerService}
+use Rattle.market.specs.declared.Kw.{Kw}
 use mathlib.Core.Path.{◌≡◌, sym, ap, ◌∙◌}
 use mathlib.Core.List.{map}
 use Prim.Native.Nat.{ℕ, ◌≤◌}
@@ -13,7 +15,6 @@ use Rattle.market.specs.Case.{Case, Curve, operating, regulating_plus_spinning, 
 use Rattle.market.specs.UpperBounds.{Schedule, provided_quantity, cleared_quantity, energy, reserve_services}
 use Rattle.market.specs.Cost.{priced_energy_step, priced_whole, priced_curve_step, priced_of, curve_priced, priced, service_price, offer, part, cost}
 use Rattle.market.specs.Records.{offer_step_of, offer_steps_of, curve_step_of, curve_steps_of, reserve_offers_of, record_of, amounts_of}
-use Rattle.market.specs.declared.Amounts.{Amounts}
 use Rattle.market.specs.declared.ReserveOffers.{ReserveOffers}
 use Rattle.case_records.specs.Ranged.{offer_step, curve_step, RangedOffers}
 use Rattle.case_records.proofs.Ranged.{offer_step_is, curve_step_is}
@@ -31,7 +32,7 @@ module _ (p a : ℤ) (price : nat_abs p ≤ 400000) (amount : nat_abs a ≤ 2000
   pub offer_size : nat_abs (p *ℤ a) ≤ 800000000000
   offer_size = omega (arith, abs-mul p a, mul-le-mul price amount)
 
-module _ {p : ReserveOffers} {a : Amounts} (h : RangedOffers p) (k : SmallAmounts a) where
+module _ {p : ReserveOffers} {a : (PerService Kw)} (h : RangedOffers p) (k : SmallAmounts a) where
   pub regulation_size : nat_abs (p.regulating.0 *ℤ a.regulation.0) ≤ 800000000000
   regulation_size = offer_size p.regulating.0 a.regulation.0 h.regulating.at_most k.regulation
 

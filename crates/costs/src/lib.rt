@@ -6,18 +6,18 @@
 ghost use Rattle.std.specs.Prelude.{◌≡◌, ◌<◌, ◌≤◌, pos, nat_abs, neg_ℤ, ◌+ℤ◌, ◌*ℤ◌};
 ghost use Rattle.arith.specs.Sums.{sum_of, upto};
 ghost use Rattle.market.specs.Case.{curves};
-ghost use Rattle.market.specs.CaseFile.{case_of};
-ghost use Rattle.market.specs.Certificate.{certificate_of};
 ghost use Rattle.market.specs.Cost.{cost};
 ghost use Rattle.market.specs.Records.{grains};
 ghost use Rattle.market.specs.Fits.{Fits64};
 ghost use Rattle.case_records.specs.Ranged.{UpTo, RangedCurve, RangedOffers, curve_step};
 ghost use Rattle.units.specs.Room.{SumRoom, ProductRoom};
-ghost use Rattle.prices.specs.Standing.{Standing, SmallAmounts};
+ghost use Rattle.prices.specs.Standing.{SmallAmounts};
 ghost use Rattle.costs.specs.Steps.{most_in_steps, filling_of, steps_worth};
 ghost use Rattle.costs.specs.Worth.{thousands, resource_worth, curve_value, reserves_worth};
+ghost use Rattle.prices.specs.PricedCase.{the_case, the_amounts};
 
 use market::{Amounts, Cents, CurveSteps, Grains, Kw, ReserveOffers};
+use prices::BoundedCase;
 
 // Amounts at prices in cents: a cent per MWh times a kW is a thousand grains.
 #[derive(Clone, Copy, Drop)]
@@ -69,7 +69,7 @@ pub fn fill(left: Kw, width: Kw) -> Filled
     let part = limits::lesser(width, left);
     Filled {
         part,
-        left: units::kw_difference(left, part),
+        left: units::difference(left, part),
     }
 }
 
@@ -80,13 +80,10 @@ fn curve_value(curve: CurveSteps, cleared: Kw) -> ThousandGrains
 {
     let mut value = ThousandGrains(0);
     let mut left = cleared;
-    let mut j: usize = 0;
-    while j < 4 {
-        let step = curve.of[j];
+    for step in &curve {
         let filled = fill(left, step.width);
         value = sum(value, worth(step.price, filled.part));
         left = filled.left;
-        j += 1;
     }
     value
 }
@@ -105,27 +102,26 @@ pub fn reserves_worth(offers: ReserveOffers, amounts: Amounts) -> ThousandGrains
 }
 
 // The value of the cleared quantities, curve by curve.
-fn curves_value(b: &[u8], q: &[u8], r: usize, z: usize, f: usize) -> ThousandGrains
-    requires { Standing b.now q.now r z f }
-    ensures { result ≡ thousands (sum_of (curve_value (case_of b.now) (certificate_of q.now).amount) curves) }
+fn curves_value(bounded: &BoundedCase<'_>) -> ThousandGrains
+    ensures { result ≡ thousands (sum_of (curve_value (the_case bounded.now.priced) (the_amounts bounded.now.priced)) curves) }
 {
-    let cleared = certificate_records::cleared(q, r, z, f);
-    let operating = curve_value(case_reader::curve_at(b, r, z, f, 0), cleared.operating);
+    let cleared = bounded.priced.certificate.cleared();
+    let operating = curve_value(bounded.priced.case.curve(0), cleared.operating);
     let spinning = curve_value(
-        case_reader::curve_at(b, r, z, f, 1),
+        bounded.priced.case.curve(1),
         cleared.regulating_plus_spinning,
     );
-    let regulating = curve_value(case_reader::curve_at(b, r, z, f, 2), cleared.regulating);
-    let short_term = curve_value(case_reader::curve_at(b, r, z, f, 3), cleared.short_term);
+    let regulating = curve_value(bounded.priced.case.curve(2), cleared.regulating);
+    let short_term = curve_value(bounded.priced.case.curve(3), cleared.short_term);
     sum(operating, sum(spinning, sum(regulating, short_term)))
 }
 
 // 1000 × (energy steps, g, c, o at their prices, less curve value), of what the resources are given at their prices, `resources`.
-pub fn cost(b: &[u8], q: &[u8], r: usize, z: usize, f: usize, resources: ThousandGrains) -> Grains
-    requires { Standing b.now q.now r z f × (resources ≡ thousands (sum_of (resource_worth (case_of b.now) (certificate_of q.now).amount) (upto r))) }
-    ensures { result ≡ grains (cost (case_of b.now) (certificate_of q.now).amount) }
+pub fn cost(bounded: &BoundedCase<'_>, resources: ThousandGrains) -> Grains
+    requires { resources ≡ thousands (sum_of (resource_worth (the_case bounded.now.priced) (the_amounts bounded.now.priced)) (upto bounded.now.priced.case.resources)) }
+    ensures { result ≡ grains (cost (the_case bounded.now.priced) (the_amounts bounded.now.priced)) }
 {
-    let value = curves_value(b, q, r, z, f);
+    let value = curves_value(bounded);
     let taken_off = negative(value);
     in_grains(sum(resources, taken_off))
 }

@@ -4,17 +4,16 @@
 
 ghost use Rattle.std.specs.Prelude.{◌≡◌, ◌*◌, ◌+◌, ◌<◌, ◌≤◌, pos, nat_abs, ◌+ℤ◌, ◌*ℤ◌, length};
 ghost use Rattle.arith.specs.Sums.{sum_of, upto};
-ghost use Rattle.market.specs.CaseFile.{case_of};
 ghost use Rattle.market.specs.UpperBounds.{energy};
-ghost use Rattle.market.specs.Certificate.{certificate_of};
 ghost use Rattle.market.specs.InWords.{kw_of};
 ghost use Rattle.market.specs.Records.{watts};
 ghost use Rattle.case_records.specs.Ranged.{UpTo};
-ghost use Rattle.certificate_records.specs.CertificateBytes.{CertificateBytes};
-ghost use Rattle.prices.specs.Standing.{Standing};
 ghost use Rattle.flows.specs.Parts.{range32, most_energy, EnergyBounded, high_unit, most_part, EnergyParts};
+ghost use Rattle.prices.specs.PricedCase.{the_case, the_amounts, certificate_bytes};
 
+use certificate_records::CertificateReader;
 use market::{Kw, Watts};
+use prices::BoundedCase;
 
 // An energy is its high part times this, and its low part.
 const HIGH_UNIT: u64 = 2048;
@@ -38,30 +37,28 @@ fn narrow(part: u64) -> i16
 }
 
 // The parts of each resource's energy, at its own place of two lent buffers.
-pub fn write_energies(q: &[u8], r: usize, z: usize, f: usize, high: &mut [i16], low: &mut [i16])
-    requires certificate_bytes { CertificateBytes q.now r z f × EnergyBounded q.now r }
-    requires r_in_bounds { (r ≤ length high.old) × (r ≤ length low.old) }
-    ensures { EnergyParts q.now r high.new low.new }
+pub fn write_energies(certificate: &CertificateReader<'_>, high: &mut [i16], low: &mut [i16])
+    requires bounded { EnergyBounded certificate.now.bytes.now certificate.now.resources }
+    requires r_in_bounds { (certificate.now.resources ≤ length high.old) × (certificate.now.resources ≤ length low.old) }
+    ensures { EnergyParts certificate.now.bytes.now certificate.now.resources high.new low.new }
 {
-    let mut i: usize = 0;
-    while i < r {
-        let a = certificate_records::amounts_at(q, r, z, f, i);
+    for i in 0..certificate.resources {
+        let a = certificate.amounts(i);
         let e = unsigned(a.energy);
         let high_part = narrow(e / HIGH_UNIT);
         let low_part = narrow(e % HIGH_UNIT);
         high[i] = high_part;
         low[i] = low_part;
-        i += 1;
     }
 }
 
 // ---- flows
 
-fn factor_at(b: &[u8], q: &[u8], r: usize, z: usize, f: usize, g: usize, i: usize) -> i32
-    requires { Standing b.now q.now r z f × ((g < f) × (i < r)) }
-    ensures { result ≡ (case_of b.now).shift_factor g i }
+fn factor_at(bounded: &BoundedCase<'_>, g: usize, i: usize) -> i32
+    requires { (g < bounded.now.priced.case.flowgates) × (i < bounded.now.priced.case.resources) }
+    ensures { result ≡ (the_case bounded.now.priced).shift_factor g i }
 {
-    let factor = case_reader::shift_factor_at(b, r, z, f, g, i);
+    let factor = bounded.priced.case.shift_factor(g, i);
     factor.0 as i32
 }
 
@@ -81,28 +78,17 @@ fn joined(high: i32, low: i32) -> Watts
 }
 
 // What the resources make flow.
-pub fn flow(
-    b: &[u8],
-    q: &[u8],
-    r: usize,
-    z: usize,
-    f: usize,
-    g: usize,
-    high: &[i16],
-    low: &[i16],
-) -> Watts
-    requires standing { Standing b.now q.now r z f × (g < f) }
-    requires energy_parts { EnergyParts q.now r high.now low.now }
-    ensures { result ≡ watts (sum_of (λ i. (case_of b.now).shift_factor g i *ℤ kw_of (certificate_of q.now).amount i energy) (upto r)) }
+pub fn flow(bounded: &BoundedCase<'_>, g: usize, high: &[i16], low: &[i16]) -> Watts
+    requires flowgate { g < bounded.now.priced.case.flowgates }
+    requires energy_parts { EnergyParts (certificate_bytes bounded.now.priced) bounded.now.priced.case.resources high.now low.now }
+    ensures { result ≡ watts (sum_of (λ i. (the_case bounded.now.priced).shift_factor g i *ℤ kw_of (the_amounts bounded.now.priced) i energy) (upto bounded.now.priced.case.resources)) }
 {
     let mut highs: i32 = 0;
     let mut lows: i32 = 0;
-    let mut i: usize = 0;
-    while i < r {
-        let factor = factor_at(b, q, r, z, f, g, i);
+    for i in 0..bounded.priced.case.resources {
+        let factor = factor_at(bounded, g, i);
         highs = added(highs, factor, high[i]);
         lows = added(lows, factor, low[i]);
-        i += 1;
     }
     joined(highs, lows)
 }

@@ -1,4 +1,7 @@
 -- market's `availability_of` by its parts, of a record's state.
+use Rattle.std.specs.Prelude.{Ok, Err, ◌⊎◌, ◌≢◌}
+use Rattle.std.proofs.Common.{inl, inr}
+use Rattle.std.proofs.lemmas.Bool.Decides.{eqb_tells}
 use mathlib.Core.Path.{◌≡◌, refl, sym, ap, ◌∙◌}
 use mathlib.Core.Bool.{Bool, true, false, not, cond, true≢false, ◌&&◌, ◌||◌}
 use Prim.Native.Nat.{ℕ}
@@ -6,6 +9,8 @@ use lib.Dec.{T, eqb, eqb→eq}
 use Rattle.market.specs.Case.{Resource as Figures}
 use Rattle.market.specs.Availability.{has_tripped, running, availability_of, is_on_line, on_line}
 use Rattle.market.specs.Records.{state_of}
+use Rattle.market.specs.Kinds.{kind_of, is_kind}
+use Rattle.market.specs.declared.Kind.TheVariants.{Conventional, Intermittent, External}
 use Rattle.market.specs.declared.Availability.{Availability}
 use Rattle.market.specs.declared.Availability.TheVariants.{OnLine, OffLine, Tripped}
 use Rattle.market.specs.declared.State.{State}
@@ -31,6 +36,34 @@ first_true : (t u : Bool) → (t && u) ≡ true → T t
 first_true true u e = tt
 first_true false u e = absurd (true≢false (sym e))
 
+-- what is read of a kind's number
+conventional_read : (k : ℕ) → is_kind Conventional (kind_of k) ≡ eqb k 1
+conventional_read k = elim (eqb_tells k 1) [ inl w ↦ rw w.1 | inr w ↦ rw w.0 (others (eqb k 2) (eqb k 3)) ]
+  where
+    others : (two three : Bool) → is_kind Conventional (cond two (Ok Intermittent) (cond three (Ok External) (Err (record { 0 = k })))) ≡ false
+    others true three = refl
+    others false true = refl
+    others false false = refl
+
+intermittent_read : (k : ℕ) → is_kind Intermittent (kind_of k) ≡ eqb k 2
+intermittent_read k = elim (eqb_tells k 1) [ inl w ↦ rw w.1 | inr w ↦ rw w.0 (others (eqb k 2) (eqb k 3)) ]
+  where
+    others : (two three : Bool) → is_kind Intermittent (cond two (Ok Intermittent) (cond three (Ok External) (Err (record { 0 = k })))) ≡ two
+    others true three = refl
+    others false true = refl
+    others false false = refl
+
+external_read : (k : ℕ) → is_kind External (kind_of k) ≡ eqb k 3
+external_read k = elim (eqb_tells k 1) [ inl w ↦ rw w.1 | inr w ↦ rw w.0 (not_one (eqb_tells k 2)) ]
+  where
+    others : (three : Bool) → is_kind External (cond three (Ok External) (Err (record { 0 = k }))) ≡ three
+    others true = refl
+    others false = refl
+
+    not_one : ((eqb k 2 ≡ true) × (k ≡ 2)) ⊎ ((eqb k 2 ≡ false) × (k ≢ 2)) → is_kind External (cond (eqb k 2) (Ok Intermittent) (cond (eqb k 3) (Ok External) (Err (record { 0 = k })))) ≡ eqb k 3
+    not_one (inl w) = rw w.1
+    not_one (inr w) = rw w.0 (others (eqb k 3))
+
 tripped_alone : (k : ℕ) (u a b c d e f : Bool) → (eqb k 1 && u) ≡ true → (eqb k 2 && a && b && c || eqb k 3 && d && e && f) ≡ false
 tripped_alone k u a b c d e f h = rw (eqb→eq k 1 (first_true (eqb k 1) u h))
 
@@ -40,11 +73,11 @@ module _ {t : State} (s : Figures) (e : t ≡ state_of s) where
 
   trip_asked_first : trip_first (conventional_tripped (state_of s)) (conventional_runs (state_of s)) (intermittent_runs (state_of s)) (external_runs (state_of s)) ≡ availability_of s
   unfolding availability_of has_tripped running state_of conventional_tripped conventional_runs intermittent_runs external_runs
-  trip_asked_first = rw (committed_kept s.status, available_kept s.status, active_schedule_kept s.status)
+  trip_asked_first = rw (conventional_read s.kind, intermittent_read s.kind, external_read s.kind, committed_kept s.status, available_kept s.status, active_schedule_kept s.status)
 
   alone : conventional_tripped (state_of s) ≡ true → (intermittent_runs (state_of s) || external_runs (state_of s)) ≡ false
   unfolding state_of conventional_tripped intermittent_runs external_runs
-  alone h = tripped_alone s.kind _ _ _ _ _ _ _ h
+  alone h = rw (intermittent_read s.kind, external_read s.kind) (tripped_alone s.kind _ _ _ _ _ _ _ (rw (conventional_read s.kind) at h))
 
   -- the tests, in the order in which the code makes them
   pub by_kinds : {trips conventional intermittent external : Bool}

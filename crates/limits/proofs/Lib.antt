@@ -1,6 +1,5 @@
-pub mod Amounts
 pub mod ByKind
+pub mod Factors
 pub mod Fields
 pub mod Widths
 pub mod Products
-pub mod WhichBounds

@@ -4,7 +4,7 @@
 // specs/Ranged.antt).
 #![tactic(auto)]
 
-ghost use Rattle.std.specs.Prelude.{◌≡◌, cond, ◌||◌, ℕ, ◌+◌, ◌*◌, ◌-◌, ◌/◌, ◌<◌, ◌≤◌, min, max, nat_abs, pos};
+ghost use Rattle.std.specs.Prelude.{◌≡◌, cond, ◌||◌, ℕ, ◌+◌, ◌*◌, ◌-◌, ◌/◌, ◌<◌, ◌≤◌, min, max, nat_abs, pos, length, get_or};
 ghost use Rattle.std.specs.Int.Signed.{lt_z};
 ghost use Rattle.market.specs.Bits.{regulating_flag, spinning_flag, on_line_supplemental};
 ghost use Rattle.market.specs.Case.{Case, Resource as Figures, Curve, Reserve, regulating_reserve, contingency_reserve, short_term_reserve, width_of, energy_steps};
@@ -14,13 +14,14 @@ ghost use Rattle.market.specs.Limits.{max_of, min_of, hi_of, lo_of, ramp_floor};
 ghost use Rattle.market.specs.Rows.{is_spinning};
 ghost use Rattle.market.specs.UpperBounds.{ramp_of, share_of, on_line_bound, bound_when, service_bound, upper_bound, energy, regulation, contingency, on_line_short_term, off_line_short_term, cleared_quantity};
 ghost use Rattle.market.specs.Records.{power, per_minute, state_of, record_of, reserve_terms_of, terms_of, offer_steps_of, curve_steps_of};
-ghost use Rattle.case_records.specs.Ranged.{UpTo, Ranged, RangedSteps, RangedTerms, RangedCurve};
+ghost use Rattle.case_records.specs.Ranged.{UpTo, Ranged, RangedSteps, RangedTerms, RangedCurve, no_step};
 ghost use Rattle.limits.specs.Together.{limits_of, TermsRanged, reserve_bounds_when, reserve_bounds_of};
+ghost use Rattle.limits.specs.Widths.{widths_of};
 ghost use Rattle.limits.specs.ByKind.{conventional_tripped, at_least500, conventional_runs, intermittent_runs, external_runs};
 
 use market::{
-    Availability, CurveSteps, Kw, KwPerMinute, Minutes, OfferSteps, ReserveTerms, Resource, State,
-    Terms, Thousandths,
+    Availability, CurveSteps, Flags, Kind, Kw, KwPerMinute, Minutes, OfferSteps, ReserveTerms,
+    Resource, State, Status, Step, Terms, Thousandths,
 };
 
 // ---- amounts: only these functions look into a kilowatt figure
@@ -46,30 +47,19 @@ fn less(a: Kw, b: Kw) -> Kw
     requires { (nat_abs a.0 ≤ 1000000000) × (nat_abs b.0 ≤ 1000000000) }
     ensures { (m n : ℕ) → a ≡ power m → b ≡ power n → result ≡ power (m - n) }
 {
-    let x = a.0;
-    let y = b.0;
-    if x < y {
-        return Kw(0);
-    }
-    Kw(x - y)
+    Kw((a.0 - b.0).max(0))
 }
 
 pub fn lesser(a: Kw, b: Kw) -> Kw
     ensures { (m n : ℕ) → a ≡ power m → b ≡ power n → result ≡ power (min m n) }
 {
-    if b.0 < a.0 {
-        return b;
-    }
-    a
+    Kw(a.0.min(b.0))
 }
 
 fn larger(a: Kw, b: Kw) -> Kw
     ensures { (m n : ℕ) → a ≡ power m → b ≡ power n → result ≡ power (max m n) }
 {
-    if a.0 < b.0 {
-        return b;
-    }
-    a
+    Kw(a.0.max(b.0))
 }
 
 // n × times / over, rounded down: first multiplied, then divided.
@@ -95,49 +85,57 @@ fn portion(a: Kw, times: Thousandths, over: Thousandths) -> Kw
 fn at_least_500(output: Kw) -> bool
     ensures { result ≡ at_least500 output.0 }
 {
-    let v = output.0;
-    (v >= 500) | (v <= -500)
+    output.0.unsigned_abs() >= 500
 }
 
 fn above_zero(output: Kw) -> bool
     ensures { result ≡ lt_z (pos 0) output.0 }
 {
-    let v = output.0;
-    v > 0
+    output.0 > 0
 }
 
 // ---- on-line, off-line or tripped (002, 3.1), by `&` and `|`, which work out both sides: kind and status follow no order that
 // a processor could foresee, and a test in vain costs less than a wrong branch
 
-// Kind 1 alone, whatever breaker and output.
+// Of conventional resources alone, whatever breaker and output.
+#[tactic(auto, unfolding(crate::specs::ByKind::conventional_tripped))]
 fn tripped(t: State) -> bool
     ensures { result ≡ conventional_tripped t }
 {
     let trip = t.trip;
-    (t.kind == 1) & (trip.0 <= 15)
+    (t.kind == Ok(Kind::Conventional)) & (trip.0 <= 15)
 }
 
 // Kind 1.
+#[tactic(auto, unfolding(crate::specs::ByKind::conventional_runs))]
 fn conventional(t: State) -> bool
     ensures { result ≡ conventional_runs t }
 {
-    (t.kind == 1) & at_least_500(t.output) & (t.breaker == 1)
+    (t.kind == Ok(Kind::Conventional)) & at_least_500(t.output) & t.breaker_closed
 }
 
 // Kind 2.
+#[tactic(auto, unfolding(crate::specs::ByKind::intermittent_runs))]
 fn intermittent(t: State) -> bool
     ensures { result ≡ intermittent_runs t }
 {
     let status = t.status;
-    (t.kind == 2) & status.committed() & (t.breaker == 1) & above_zero(t.output)
+    (t.kind == Ok(Kind::Intermittent))
+        & status.has(Status::COMMITTED)
+        & t.breaker_closed
+        & above_zero(t.output)
 }
 
 // Kind 3.
+#[tactic(auto, unfolding(crate::specs::ByKind::external_runs))]
 fn external(t: State) -> bool
     ensures { result ≡ external_runs t }
 {
     let status = t.status;
-    (t.kind == 3) & status.available() & (t.breaker == 1) & status.active_schedule()
+    (t.kind == Ok(Kind::External))
+        & status.has(Status::AVAILABLE)
+        & t.breaker_closed
+        & status.has(Status::ACTIVE_SCHEDULE)
 }
 
 // Of its state alone. Nothing else decides which of the three a resource is. Kinds 2 and 3 never trip, so that on-line may be
@@ -156,6 +154,7 @@ pub fn state_availability(t: State) -> Availability
     Availability::OffLine
 }
 
+#[tactic(auto, unfolding(market::specs::Records::record_of))]
 pub fn availability_of(r: Resource) -> Availability
     ensures { (s : Figures) → r ≡ record_of s → result ≡ availability_of s }
 {
@@ -164,11 +163,12 @@ pub fn availability_of(r: Resource) -> Availability
 }
 
 // Its contingency reserve is spinning: it is on-line, `on`, and has flag 2.
+#[tactic(auto, unfolding(market::specs::Records::state_of))]
 pub fn spinning(on: bool, t: State) -> bool
     ensures { (s : Figures) → on ≡ on_line s → t ≡ state_of s → result ≡ is_spinning s }
 {
     let flags = t.flags;
-    on & flags.spinning()
+    on & flags.has(Flags::SPINNING)
 }
 
 // ---- limits: whether the resource is on-line, `on`, is decided once for all of them
@@ -178,7 +178,7 @@ fn regulates(r: Resource) -> bool
     ensures { result ≡ regulating_flag r.state.flags.0 }
 {
     let flags = r.state.flags;
-    flags.regulating()
+    flags.has(Flags::REGULATING)
 }
 
 // The emergency limit if it is released, else the regulating one if the resource regulates, else the economic.
@@ -194,6 +194,7 @@ fn in_force(released: bool, emergency: Kw, regulates: bool, regulating: Kw, econ
     economic
 }
 
+#[tactic(auto, unfolding(market::specs::Limits::max_of, market::specs::Records::record_of, market::specs::Records::output_limits_of, market::specs::Records::state_of))]
 fn max_limit(on: bool, r: Resource) -> Kw
     ensures { (s : Figures) → on ≡ on_line s → r ≡ record_of s → result ≡ power (max_of s) }
 {
@@ -202,7 +203,7 @@ fn max_limit(on: bool, r: Resource) -> Kw
         return limits.economic_max;
     }
     let flags = r.state.flags;
-    let released = flags.emergency_maximum();
+    let released = flags.has(Flags::EMERGENCY_MAXIMUM);
     let regulating = regulates(r);
     in_force(
         released,
@@ -213,6 +214,7 @@ fn max_limit(on: bool, r: Resource) -> Kw
     )
 }
 
+#[tactic(auto, unfolding(market::specs::Limits::min_of, market::specs::Records::record_of, market::specs::Records::output_limits_of, market::specs::Records::state_of))]
 fn min_limit(on: bool, r: Resource) -> Kw
     ensures { (s : Figures) → on ≡ on_line s → r ≡ record_of s → result ≡ power (min_of s) }
 {
@@ -221,7 +223,7 @@ fn min_limit(on: bool, r: Resource) -> Kw
     }
     let limits = r.limits;
     let flags = r.state.flags;
-    let released = flags.emergency_minimum();
+    let released = flags.has(Flags::EMERGENCY_MINIMUM);
     let regulating = regulates(r);
     in_force(
         released,
@@ -232,6 +234,7 @@ fn min_limit(on: bool, r: Resource) -> Kw
     )
 }
 
+#[tactic(auto, unfolding(market::specs::Limits::hi_of, market::specs::Records::record_of, market::specs::Records::output_limits_of))]
 fn high_limit(on: bool, r: Resource) -> Kw
     requires { Ranged r }
     ensures { (s : Figures) → on ≡ on_line s → r ≡ record_of s → result ≡ power (hi_of s) }
@@ -253,6 +256,7 @@ fn ramp_floor(r: Resource) -> Kw
 }
 
 // Of its MAX, `most`, and its HI, `high`: a self-schedule above either of them yields (02, request 6).
+#[tactic(auto, unfolding(market::specs::Limits::lo_of, market::specs::Records::record_of, market::specs::Records::other_powers_of, market::specs::Records::state_of))]
 fn low_limit(on: bool, most: Kw, high: Kw, r: Resource) -> Kw
     requires { Ranged r }
     ensures { (s : Figures) → on ≡ on_line s → most ≡ power (max_of s) → high ≡ power (hi_of s) → r ≡ record_of s → result ≡ power (lo_of s) }
@@ -262,7 +266,7 @@ fn low_limit(on: bool, most: Kw, high: Kw, r: Resource) -> Kw
     }
     let floor = ramp_floor(r);
     let flags = r.state.flags;
-    if !flags.self_scheduled() {
+    if !flags.has(Flags::SELF_SCHEDULED) {
         return floor;
     }
     let in_reach = lesser(high, lesser(most, r.other_powers.self_schedule));
@@ -278,6 +282,7 @@ pub struct ResourceLimits {
     pub low: Kw,
 }
 
+#[tactic(auto, unfolding(crate::specs::Together::limits_of))]
 pub fn limits_of(on: bool, r: Resource) -> ResourceLimits
     requires { Ranged r }
     ensures { (s : Figures) → on ≡ on_line s → r ≡ record_of s → result ≡ limits_of s }
@@ -295,6 +300,7 @@ pub fn limits_of(on: bool, r: Resource) -> ResourceLimits
 // ---- what bounds a reserve
 
 // RAMP
+#[tactic(auto, unfolding(market::specs::UpperBounds::ramp_of, market::specs::Records::reserve_terms_of, market::specs::Records::record_of, market::specs::Records::ramps_of))]
 fn ramp_bound(terms: ReserveTerms, r: Resource) -> Kw
     requires { RangedTerms terms × Ranged r }
     ensures { (c : Case) (p : Reserve) (s : Figures) → terms ≡ reserve_terms_of c p → r ≡ record_of s → result ≡ power (ramp_of c p s) }
@@ -304,6 +310,7 @@ fn ramp_bound(terms: ReserveTerms, r: Resource) -> Kw
 }
 
 // SHARE
+#[tactic(auto, using(crate::proofs::Factors::factors), unfolding(market::specs::UpperBounds::share_of, market::specs::Records::reserve_terms_of))]
 fn share_bound(terms: ReserveTerms) -> Kw
     requires { RangedTerms terms }
     ensures { (c : Case) (p : Reserve) → terms ≡ reserve_terms_of c p → result ≡ power (share_of c p) }
@@ -312,6 +319,7 @@ fn share_bound(terms: ReserveTerms) -> Kw
 }
 
 // The least of RAMP, SHARE and MAX, which is `most`.
+#[tactic(auto, unfolding(market::specs::UpperBounds::on_line_bound))]
 fn on_line_bound(most: Kw, terms: ReserveTerms, r: Resource) -> Kw
     requires { RangedTerms terms × Ranged r }
     ensures { (c : Case) (p : Reserve) (s : Figures) → most ≡ power (max_of s) → terms ≡ reserve_terms_of c p → r ≡ record_of s → result ≡ power (on_line_bound c p s) }
@@ -321,6 +329,19 @@ fn on_line_bound(most: Kw, terms: ReserveTerms, r: Resource) -> Kw
     lesser(ramp, lesser(share, most))
 }
 
+// ---- the widths of steps together
+
+fn total_width(steps: &[Step]) -> Kw
+    requires { (length steps.now ≤ 10) × ((j : ℕ) → j < length steps.now → UpTo (get_or steps.now j no_step).width.0 8000000) }
+    ensures { result ≡ power (width_of (widths_of (λ j. get_or steps.now j no_step)) (length steps.now)) }
+{
+    let mut sum = Kw(0);
+    for step in steps {
+        sum = plus(sum, step.width);
+    }
+    sum
+}
+
 // ---- upper bound of a resource's energy
 
 // The widths of the energy steps together.
@@ -328,17 +349,11 @@ fn offered(steps: OfferSteps) -> Kw
     requires { RangedSteps steps }
     ensures { (s : Figures) → steps ≡ offer_steps_of s → result ≡ power (width_of s.step_width energy_steps) }
 {
-    let mut sum = Kw(0);
-    let mut j: usize = 0;
-    while j < 10 {
-        let step = steps.of[j];
-        sum = plus(sum, step.width);
-        j += 1;
-    }
-    sum
+    total_width(&steps)
 }
 
 // e
+#[tactic(auto, using(market::proofs::EnergyBounds::energy_bound_is))]
 pub fn energy_bound(on: bool, steps: OfferSteps) -> Kw
     requires { RangedSteps steps }
     ensures { (c : Case) (s : Figures) → on ≡ on_line s → steps ≡ offer_steps_of s → result ≡ power (service_bound c s energy) }
@@ -352,6 +367,7 @@ pub fn energy_bound(on: bool, steps: OfferSteps) -> Kw
 // ---- of its reserves on-line, of its MAX, `most`
 
 // g
+#[tactic(auto, unfolding(market::specs::UpperBounds::bound_when, market::specs::Records::record_of, market::specs::Records::state_of))]
 fn regulation_bound(most: Kw, terms: ReserveTerms, r: Resource) -> Kw
     requires { RangedTerms terms × Ranged r }
     ensures { (c : Case) (s : Figures) → most ≡ power (max_of s) → terms ≡ reserve_terms_of c regulating_reserve → r ≡ record_of s → result ≡ power (bound_when OnLine c s regulation) }
@@ -367,14 +383,15 @@ fn carries_contingency(t: State) -> bool
     ensures { result ≡ (spinning_flag t.flags.0 || on_line_supplemental t.status.0) }
 {
     let flags = t.flags;
-    if flags.spinning() {
+    if flags.has(Flags::SPINNING) {
         return true;
     }
     let status = t.status;
-    status.on_line_supplemental()
+    status.has(Status::ON_LINE_SUPPLEMENTAL)
 }
 
 // c
+#[tactic(auto, unfolding(market::specs::UpperBounds::bound_when, market::specs::Records::record_of, market::specs::Records::state_of))]
 fn contingency_bound(most: Kw, terms: ReserveTerms, r: Resource) -> Kw
     requires { RangedTerms terms × Ranged r }
     ensures { (c : Case) (s : Figures) → most ≡ power (max_of s) → terms ≡ reserve_terms_of c contingency_reserve → r ≡ record_of s → result ≡ power (bound_when OnLine c s contingency) }
@@ -387,12 +404,13 @@ fn contingency_bound(most: Kw, terms: ReserveTerms, r: Resource) -> Kw
 }
 
 // s
+#[tactic(auto, unfolding(market::specs::UpperBounds::bound_when, market::specs::Records::record_of, market::specs::Records::state_of))]
 fn on_line_short_term_bound(most: Kw, terms: ReserveTerms, r: Resource) -> Kw
     requires { RangedTerms terms × Ranged r }
     ensures { (c : Case) (s : Figures) → most ≡ power (max_of s) → terms ≡ reserve_terms_of c short_term_reserve → r ≡ record_of s → result ≡ power (bound_when OnLine c s on_line_short_term) }
 {
     let flags = r.state.flags;
-    if !flags.on_line_short_term() {
+    if !flags.has(Flags::ON_LINE_SHORT_TERM) {
         return Kw(0);
     }
     on_line_bound(most, terms, r)
@@ -401,12 +419,13 @@ fn on_line_short_term_bound(most: Kw, terms: ReserveTerms, r: Resource) -> Kw
 // ---- of its reserves off-line
 
 // c
+#[tactic(auto, unfolding(market::specs::UpperBounds::bound_when, market::specs::Records::record_of, market::specs::Records::state_of, market::specs::Records::output_limits_of, market::specs::Records::other_powers_of))]
 fn off_line_contingency_bound(terms: ReserveTerms, r: Resource) -> Kw
     requires { RangedTerms terms × Ranged r }
     ensures { (c : Case) (s : Figures) → terms ≡ reserve_terms_of c contingency_reserve → r ≡ record_of s → result ≡ power (bound_when OffLine c s contingency) }
 {
     let flags = r.state.flags;
-    if !flags.off_line_supplemental() {
+    if !flags.has(Flags::OFF_LINE_SUPPLEMENTAL) {
         return Kw(0);
     }
     let share = share_bound(terms);
@@ -417,11 +436,12 @@ fn off_line_contingency_bound(terms: ReserveTerms, r: Resource) -> Kw
 }
 
 // o
+#[tactic(auto, unfolding(market::specs::UpperBounds::bound_when, market::specs::Records::record_of, market::specs::Records::state_of, market::specs::Records::output_limits_of, market::specs::Records::other_powers_of))]
 fn off_line_short_term_bound(r: Resource) -> Kw
     ensures { (c : Case) (s : Figures) → r ≡ record_of s → result ≡ power (bound_when OffLine c s off_line_short_term) }
 {
     let flags = r.state.flags;
-    if !flags.off_line_short_term() {
+    if !flags.has(Flags::OFF_LINE_SHORT_TERM) {
         return Kw(0);
     }
     lesser(r.limits.economic_max, r.other_powers.off_line_short_term)
@@ -436,6 +456,7 @@ pub struct ReserveBounds {
     pub off_line_short_term: Kw,
 }
 
+#[tactic(auto, unfolding(crate::specs::Together::reserve_bounds_when, market::specs::UpperBounds::bound_when, market::specs::Records::terms_of))]
 fn on_line_bounds(most: Kw, terms: Terms, r: Resource) -> ReserveBounds
     requires { TermsRanged terms × Ranged r }
     ensures { (c : Case) (s : Figures) → most ≡ power (max_of s) → terms ≡ terms_of c → r ≡ record_of s → result ≡ reserve_bounds_when OnLine c s }
@@ -461,6 +482,7 @@ fn off_line_bounds(terms: Terms, r: Resource) -> ReserveBounds
 }
 
 // Tripped, it provides nothing.
+#[tactic(auto, unfolding(crate::specs::Together::reserve_bounds_of, crate::specs::Together::reserve_bounds_when, market::specs::UpperBounds::service_bound, market::specs::UpperBounds::bound_when))]
 pub fn reserve_bounds(
     most: Kw,
     terms: Terms,
@@ -489,12 +511,5 @@ pub fn curve_bound(curve: CurveSteps) -> Kw
     requires { RangedCurve curve }
     ensures { (c : Case) (k : Curve) → curve ≡ curve_steps_of c k → result ≡ power (upper_bound c (cleared_quantity k)) }
 {
-    let mut sum = Kw(0);
-    let mut j: usize = 0;
-    while j < 4 {
-        let step = curve.of[j];
-        sum = plus(sum, step.width);
-        j += 1;
-    }
-    sum
+    total_width(&curve)
 }

@@ -13,10 +13,10 @@ use Rattle.market.specs.Prices.{lmp_of}
 use Rattle.market.specs.InWords.{limit_prices}
 use Rattle.market.specs.Records.{millicents}
 use Rattle.prices.specs.declared.ZonePrices.{ZonePrices}
-use Rattle.net_prices.specs.declared.Nets.{Nets}
+use Rattle.market.specs.declared.PerService.{PerService}
 
 -- energy without an offer: a step adds 1000 × its price
-unfoldable pub nets_of : Case → Prices → ℕ → Nets
+unfoldable pub nets_of : Case → Prices → ℕ → PerService Millicents
 nets_of c y i =
     record {
       energy = millicents (limit_prices y i -ℤ lmp_of c y i);
@@ -35,7 +35,7 @@ own_rows prices = prices.max_with_reserve.0 +ℤ prices.max_with_short_term.0 -�
 abbrev pub reserve_net : ℤ → ℤ → ℤ → ℤ
 reserve_net offer price own = pos 1000 *ℤ offer -ℤ price +ℤ own
 
-unfoldable pub nets_from : ReserveOffers → Bool → LimitPrices → Millicents → ZonePrices → Nets
+unfoldable pub nets_from : ReserveOffers → Bool → LimitPrices → Millicents → ZonePrices → PerService Millicents
 nets_from offers spins own lmp zone =
     record {
       energy = millicents (own_rows own -ℤ lmp.0);

@@ -9,7 +9,7 @@ use Rattle.market.specs.UpperBounds.{regulation, contingency, on_line_short_term
 use Rattle.market.specs.Fits.{range64}
 use Rattle.market.specs.Sizes.{most_cents, most_price, most_lmp, most_regulating_price, most_spinning_price, most_supplemental_price, most_short_term_price, most_energy_rows, most_service_net}
 use Rattle.prices.specs.declared.ZonePrices.{ZonePrices}
-use Rattle.net_prices.specs.declared.Nets.{Nets}
+use Rattle.market.specs.declared.PerService.{PerService}
 
 -- m is v thousandths of a cent, and no more than `most`
 pub record Price (price : Millicents) (v : ℤ) (most : ℕ) : Type 0 where
@@ -51,7 +51,7 @@ abbrev pub NetRoom : Millicents → Millicents → Type 0
 NetRoom zone own = (most_price + nat_abs zone.0 + nat_abs own.0) < range64
 
 -- ---- and of its net prices
-pub record SmallNets (nets : Nets) : Type 0 where
+pub record SmallNets (nets : PerService Millicents) : Type 0 where
   pub energy : nat_abs nets.energy.0 ≤ most_energy_rows
   pub regulation : nat_abs nets.regulation.0 ≤ most_service_net regulation
   pub contingency : nat_abs nets.contingency.0 ≤ most_service_net contingency

@@ -5,28 +5,19 @@
 ghost use Rattle.std.specs.Prelude.{◌≡◌, cond, ◌+◌, ◌*◌, ◌<◌, nat_abs, pos, ◌+ℤ◌, ◌-ℤ◌, ◌*ℤ◌};
 ghost use Rattle.market.specs.Rows.{is_spinning};
 ghost use Rattle.market.specs.Prices.{lmp_of};
-ghost use Rattle.market.specs.CaseFile.{case_of};
-ghost use Rattle.market.specs.Certificate.{certificate_of};
 ghost use Rattle.market.specs.Records.{record_of, millicents};
 ghost use Rattle.market.specs.Sizes.{most_price, most_service_net, most_curve_net};
 ghost use Rattle.market.specs.UpperBounds.{energy};
 ghost use Rattle.units.specs.Room.{SumRoom};
-ghost use Rattle.prices.specs.Standing.{PricesStand};
 ghost use Rattle.net_prices.specs.NetPrices.{nets_of, nets_from, own_rows, reserve_net};
 ghost use Rattle.net_prices.specs.Sizes.{Price, SmallOffer, SmallPrice, SmallOffers, SmallLimitPrices, SmallZonePrices, SmallLmp, SmallNets, NetRoom};
+ghost use Rattle.prices.specs.PricedCase.{the_case, the_prices};
 
-use market::{Cents, LimitPrices, Millicents, ReserveOffers, Resource};
-use prices::ZonePrices;
+use market::{Cents, LimitPrices, Millicents, PerService, ReserveOffers, Resource};
+use prices::{PricedCase, ZonePrices};
 
 // A resource's net prices. Energy is without an offer: `step_net` adds a step's.
-#[derive(Clone, Copy, Drop)]
-pub struct Nets {
-    pub energy: Millicents,
-    pub regulation: Millicents,
-    pub contingency: Millicents,
-    pub on_line_short_term: Millicents,
-    pub off_line_short_term: Millicents,
-}
+pub type Nets = PerService<Millicents>;
 
 // ---- sums of prices, with how large they can be
 
@@ -34,14 +25,14 @@ fn plus(a: Millicents, b: Millicents) -> Millicents
     requires { SumRoom a.0 b.0 }
     ensures { Price result (a.0 +ℤ b.0) (nat_abs a.0 + nat_abs b.0) }
 {
-    units::price_sum(a, b)
+    units::sum(a, b)
 }
 
 fn minus(a: Millicents, b: Millicents) -> Millicents
     requires { SumRoom a.0 b.0 }
     ensures { Price result (a.0 -ℤ b.0) (nat_abs a.0 + nat_abs b.0) }
 {
-    units::price_difference(a, b)
+    units::difference(a, b)
 }
 
 // An offer in thousandths of a cent.
@@ -131,23 +122,19 @@ fn nets_of(
 
 // The net prices of resource i, whose record has been read; `spins` is whether its contingency reserve is spinning, `lmp` its LMP.
 pub fn nets_for(
-    b: &[u8],
-    q: &[u8],
-    r: usize,
-    z: usize,
-    f: usize,
+    priced: &PricedCase<'_>,
     i: usize,
     spins: bool,
     lmp: Millicents,
     resource: Resource,
 ) -> Nets
-    requires prices_stand { (PricesStand b.now q.now r z f × (i < r)) × ((spins ≡ is_spinning ((case_of b.now).resource i)) × (resource ≡ record_of ((case_of b.now).resource i))) }
-    requires lmp_value { lmp ≡ millicents (lmp_of (case_of b.now) (certificate_of q.now).price i) }
-    ensures { result ≡ nets_of (case_of b.now) (certificate_of q.now).price i }
+    requires resource { (i < priced.now.case.resources) × ((spins ≡ is_spinning ((the_case priced.now).resource i)) × (resource ≡ record_of ((the_case priced.now).resource i))) }
+    requires lmp_value { lmp ≡ millicents (lmp_of (the_case priced.now) (the_prices priced.now) i) }
+    ensures { result ≡ nets_of (the_case priced.now) (the_prices priced.now) i }
 {
     let state = resource.state;
     let zone = state.zone as usize - 1;
-    let own = certificate_records::limit_prices_at(q, r, z, f, i);
-    let prices = prices::zone_prices(b, q, r, z, f, zone);
+    let own = priced.certificate.limit_prices(i);
+    let prices = priced.zone_prices(zone);
     nets_of(resource.offers, spins, own, lmp, prices)
 }

@@ -4,49 +4,42 @@
 
 ghost use Rattle.std.specs.Prelude.{◌≡◌, ◌++◌, ◌*◌, ◌≤◌, length, drop};
 ghost use Rattle.arith.specs.Sums.{upto, across};
-ghost use Rattle.market.specs.CaseFile.{case_of};
-ghost use Rattle.market.specs.Certificate.{certificate_of};
 ghost use Rattle.market.specs.Prices.{zone_prices, price_list, zone_price_count, price_count, price_count_of};
-ghost use Rattle.prices.specs.Standing.{PricesStand, Standing};
 ghost use Rattle.price_list.specs.Numbers.{numbers_of};
+ghost use Rattle.prices.specs.PricedCase.{the_case, the_prices};
 
 use market::ZONE_PRICES;
-use prices::ZonePrices;
+use prices::{BoundedCase, PricedCase, ZonePrices};
 
 // A zone's regulating, spinning, supplemental and short-term price.
 fn write_zone(p: ZonePrices, out: &mut [i64])
     requires { zone_price_count ≤ length out.old }
     ensures { out.new ≡ numbers_of p ++ drop zone_price_count out.old }
 {
-    let regulating = p.regulating.0;
-    let spinning = p.spinning.0;
-    let supplemental = p.supplemental.0;
-    let short_term = p.short_term.0;
-    out[0] = regulating;
-    out[1] = spinning;
-    out[2] = supplemental;
-    out[3] = short_term;
+    let numbers = [
+        p.regulating.0,
+        p.spinning.0,
+        p.supplemental.0,
+        p.short_term.0,
+    ];
+    out[..ZONE_PRICES].copy_from_slice(&numbers);
 }
 
 // Each zone's prices, from its own place on.
-fn write_zones(b: &[u8], q: &[u8], r: usize, z: usize, f: usize, out: &mut [i64])
-    requires { PricesStand b.now q.now r z f × (zone_price_count * z ≤ length out.old) }
-    ensures { out.new ≡ across (zone_prices (certificate_of q.now).price) (upto z) ++ drop (zone_price_count * z) out.old }
+fn write_zones(priced: &PricedCase<'_>, out: &mut [i64])
+    requires { zone_price_count * priced.now.case.zones ≤ length out.old }
+    ensures { out.new ≡ across (zone_prices (the_prices priced.now)) (upto priced.now.case.zones) ++ drop (zone_price_count * priced.now.case.zones) out.old }
 {
-    let mut zone: usize = 0;
-    let mut at: usize = 0;
-    while zone < z {
-        let p = prices::zone_prices(b, q, r, z, f, zone);
-        write_zone(p, &mut out[at..]);
-        at += ZONE_PRICES;
-        zone += 1;
+    for zone in 0..priced.case.zones {
+        let p = priced.zone_prices(zone);
+        write_zone(p, &mut out[ZONE_PRICES * zone..]);
     }
 }
 
-pub fn write_prices(b: &[u8], q: &[u8], r: usize, z: usize, f: usize, out: &mut [i64])
-    requires { Standing b.now q.now r z f × (price_count_of r z ≤ length out.old) }
-    ensures { out.new ≡ price_list (case_of b.now) (certificate_of q.now).price ++ drop (price_count (case_of b.now)) out.old }
+pub fn write_prices(bounded: &BoundedCase<'_>, out: &mut [i64])
+    requires { price_count_of bounded.now.priced.case.resources bounded.now.priced.case.zones ≤ length out.old }
+    ensures { out.new ≡ price_list (the_case bounded.now.priced) (the_prices bounded.now.priced) ++ drop (price_count (the_case bounded.now.priced)) out.old }
 {
-    prices::write_lmps(b, q, r, z, f, out);
-    write_zones(b, q, r, z, f, &mut out[r..]);
+    bounded.priced.write_lmps(out);
+    write_zones(&bounded.priced, &mut out[bounded.priced.case.resources..]);
 }

@@ -1,3 +1,4 @@
 pub mod Known
 pub mod Passes
 pub mod Written
+pub mod SameCounts

@@ -4,7 +4,9 @@ use mathlib.Core.List.{List, ◌++◌, map}
 use Prim.Native.Nat.{ℕ, ◌+◌, ◌*◌, ◌<◌, ◌≤◌}
 use native.Mathlib.Omega.{arith}
 use lib.IntN.{ℤ, pos, nat_abs, ◌+ℤ◌, ◌-ℤ◌, ◌*ℤ◌, zero-*ℤ}
-use lib.ListN.{drop, length-append}
+use lib.ListN.{drop, length-append, replicate}
+use Rattle.std.proofs.lemmas.Simd.{splat_is_map}
+use Rattle.arith.proofs.Lists.{length-upto}
 use Rattle.arith.specs.Sums.{sum_of, upto}
 use Rattle.arith.proofs.Linear.{sorted, count}
 use Rattle.arith.proofs.Magnitudes.{abs-sub}
@@ -47,9 +49,8 @@ module _ (c : Case) (y : Prices) where
 
   module _ (r : ℕ) where
     -- before the first pass
-    pub none_passed : (out rest : List ℤ) → out ≡ map (λ i. y balance_row) (upto r) ++ rest → out ≡ lmps_after c y 0 r ++ drop r out
-    none_passed out rest e =
-        rw (front_rest (λ i. y balance_row) r out rest e) (e ∙ rw (table_ext (λ i. y balance_row) (lmp_after c y 0) r (λ i l. after_none i)))
+    pub none_passed : replicate r (y balance_row) ≡ lmps_after c y 0 r
+    none_passed = splat_is_map (upto r) r (y balance_row) (length-upto r) ∙ table_ext (λ i. y balance_row) (lmp_after c y 0) r (λ i l. after_none i)
 
     -- a flowgate's pass: it takes its part from each figure
     pub one_taken : (n : ℕ) (out rest : List ℤ) → out ≡ lmps_after c y n r ++ rest

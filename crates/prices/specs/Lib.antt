@@ -2,3 +2,5 @@ pub mod Figures
 pub mod Standing
 pub mod ZonePrices
 pub mod Written
+pub mod PricedCase
+pub mod Unique

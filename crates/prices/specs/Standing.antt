@@ -1,7 +1,8 @@
 -- What is known of a case and a certificate once 12, and once 13, has been tested.
+use Rattle.market.specs.declared.PerService.{PerService}
+use Rattle.market.specs.declared.Kw.{Kw}
 use Rattle.std.specs.Prelude.{List, ℕ, ◌≤◌, nat_abs, T}
 use Rattle.arith.specs.Sums.{all}
-use Rattle.market.specs.declared.Amounts.{Amounts}
 use Rattle.market.specs.CaseFile.{case_of}
 use Rattle.market.specs.Rows.{rows, Bounded}
 use Rattle.market.specs.Certificate.{certificate_of}
@@ -22,7 +23,7 @@ pub record Standing (b q : List ℕ) (r z f : ℕ) : Type 0 where
   pub bounded : Bounded (case_of b) (certificate_of q).amount
 
 -- amounts of a resource, each within its bound and so at most 2,000,000 kW
-pub record SmallAmounts (amounts : Amounts) : Type 0 where
+pub record SmallAmounts (amounts : (PerService Kw)) : Type 0 where
   pub energy : nat_abs amounts.energy.0 ≤ 2000000
   pub regulation : nat_abs amounts.regulation.0 ≤ 2000000
   pub contingency : nat_abs amounts.contingency.0 ≤ 2000000

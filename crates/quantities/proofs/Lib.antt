@@ -1,3 +1,2 @@
 pub mod Passing
 mod Above
-mod Figures

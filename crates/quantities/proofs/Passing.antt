@@ -1,8 +1,10 @@
 -- The stages are the grounds in their order; what is known past 1 to 11, and past 1 to 13.
 -- Later crates take from here that a case and a certificate that have passed stand.
+use Rattle.std.specs.Prelude.{Result, Ok, Err, IfOk}
 use mathlib.Core.Path.{◌≡◌, refl, sym, ◌∙◌, ap, subst}
 use mathlib.Core.List.{List, [], ◌∷◌, ◌++◌}
 use Prim.Native.Nat.{ℕ}
+use native.Mathlib.Omega.{arith}
 use lib.IntN.{ℤ}
 use Rattle.arith.specs.Sums.{all}
 use Rattle.arith.proofs.Lists.{each_split}
@@ -13,32 +15,29 @@ use Rattle.market.specs.CaseFile.{case_of}
 use Rattle.market.specs.Certificate.{certificate_of}
 use Rattle.market.specs.Records.{counts_in}
 use Rattle.market.specs.Rows.{rows}
-use Rattle.market.specs.Refusals.{Finding, clear, holds, first_of, AllClear}
+use Rattle.market.specs.Refusals.{Finding, clear, holds, answered, first_of, AllClear}
 use Rattle.market.specs.Outcome.{Valid, case_grounds, form_grounds, price_ground, bound_ground, grounds_to11, grounds_to12, grounds_to13, price_right}
-use Rattle.market.proofs.Grounds.{none_holds, unless_clear, first_of_append, first_of_one}
-use Rattle.market.proofs.FirstFailing.{or_else}
+use Rattle.market.proofs.Grounds.{none_holds, unless_clear, first_earlier, first_later, first_of_one}
 use Rattle.market.proofs.Ranges.{valid_ranges, bounded}
-use Rattle.case_check.specs.declared.Stage.{Stage}
-use Rattle.case_check.specs.declared.Stage.TheVariants.{Passed, Refused}
-use Rattle.case_check.specs.Stages.{stage_of}
-use Rattle.case_check.proofs.Passing.{not_passed, passed_clear, refused_holds}
+use Rattle.case_check.proofs.Passing.{passed_clear, refused_holds}
 use Rattle.case_records.specs.Places.{CaseBytes}
 use Rattle.case_records.proofs.Places.{valid_bytes}
 use Rattle.certificate_form.proofs.Forms.{form_bytes}
-use Rattle.prices.specs.Standing.{Standing}
+use Rattle.prices.specs.Standing.{PricesStand, Standing}
 use Rattle.capabilities.specs.Kept.{Kept}
-use Rattle.quantities.specs.Filing.{Filing, FiledWith, Filed, Advanced, Decided, afterwards}
+use Rattle.quantities.specs.Filing.{FiledWith, Decided}
 
--- ---- stages and findings
--- one ground more, of the stage's answer and of the list
-one_more : (n : Counts) (f g : Finding) → afterwards (stage_of n f) g ≡ stage_of n (or_else f g)
-unfolding afterwards
-one_more n clear clear = refl
-one_more n clear (holds r) = refl
-one_more n (holds r) g = refl
+-- ---- a stage after an earlier one: the answer of the grounds gs, then of those that follow
+module _ {A : Type 0} (n : A) (gs : List Finding) where
+  pub stays : (hs : List Finding) (w : Refusal) → answered n (first_of gs) ≡ Err w → answered n (first_of (gs ++ hs)) ≡ Err w
+  stays hs w h = ap (answered n) (first_earlier gs hs w (refused_holds n w (first_of gs) h))
 
-after_list : (n : Counts) (gs : List Finding) (g : Finding) → afterwards (stage_of n (first_of gs)) g ≡ stage_of n (first_of (gs ++ (g ∷ [])))
-after_list n gs g = one_more n (first_of gs) g ∙ rw (first_of_append gs (g ∷ []), first_of_one g)
+  pub goes_on : (hs : List Finding) (m : A) → answered n (first_of gs) ≡ Ok m → answered n (first_of (gs ++ hs)) ≡ answered m (first_of hs)
+  goes_on hs m h = let p = passed_clear n m (first_of gs) h in rw (first_later gs hs p.0, p.1) refl
+
+  -- by one ground
+  pub one_more : (g : Finding) (m : A) → answered n (first_of gs) ≡ Ok m → answered n (first_of (gs ++ (g ∷ []))) ≡ answered m g
+  one_more g m h = goes_on (g ∷ []) m h ∙ ap (answered m) (first_of_one g)
 
 -- ---- past 1 to 11
 module _ (b q : List ℕ) where
@@ -46,59 +45,36 @@ module _ (b q : List ℕ) where
   unfolding case_of
   case_bytes v = valid_bytes b v
 
-  filing : Valid b → AllClear (form_grounds (case_of b) q (certificate_of q)) → Filing b q (case_of b).resources (case_of b).zones (case_of b).flowgates
-  filing v h = record { case_bytes = case_bytes v; certificate_bytes = form_bytes q (case_of b) (valid_ranges b v).counts h; valid = v }
+  filing : Valid b → AllClear (form_grounds (case_of b) q (certificate_of q)) → FiledWith b q (counts_in (case_of b))
+  filing v h = record { counts = refl; case_bytes = case_bytes v; certificate_bytes = form_bytes q (case_of b) (valid_ranges b v).counts h; valid = v }
 
-  -- the case was refused
-  pub refused_earlier : (s : Stage) (w : Refusal) → s ≡ stage_of (counts_in (case_of b)) (first_of (case_grounds b)) → s ≡ Refused w → (s ≡ stage_of (counts_in (case_of b)) (first_of (grounds_to11 b q))) × Filed b q s
-  unfolding grounds_to11
-  refused_earlier s w e h =
-      let f : first_of (case_grounds b) ≡ holds w = refused_holds (counts_in (case_of b)) w (first_of (case_grounds b)) (sym e ∙ h) in
-      (h ∙ rw (first_of_append (case_grounds b) (form_grounds (case_of b) q (certificate_of q)), f), record { known = λ n k. not_passed (sym h ∙ k) })
+  pub filed : (n : Counts) (s : Result Counts Refusal) → answered (counts_in (case_of b)) (first_of (case_grounds b)) ≡ Ok n → s ≡ answered n (first_of (form_grounds (case_of b) q (certificate_of q))) → IfOk s (FiledWith b q)
+  filed n s h e = rw e (by (first_of (form_grounds (case_of b) q (certificate_of q))) refl)
+    where
+      by : (f : Finding) → first_of (form_grounds (case_of b) q (certificate_of q)) ≡ f → IfOk (answered n f) (FiledWith b q)
+      by (holds w) k = tt
+      by clear k =
+          let p = passed_clear (counts_in (case_of b)) n (first_of (case_grounds b)) h in
+          let v : Valid b = none_holds (case_grounds b) p.0 in
+          rw p.1 (filing v (none_holds (form_grounds (case_of b) q (certificate_of q)) k))
 
-  -- the case was passed with these counts
-  pub form_after : (s : Stage) (n : Counts) → stage_of (counts_in (case_of b)) (first_of (case_grounds b)) ≡ Passed n → s ≡ stage_of n (first_of (form_grounds (case_of b) q (certificate_of q))) → (s ≡ stage_of (counts_in (case_of b)) (first_of (grounds_to11 b q))) × Filed b q s
-  unfolding grounds_to11
-  form_after s n h e =
-      let p = passed_clear (counts_in (case_of b)) n (first_of (case_grounds b)) h in
-      let v : Valid b = none_holds (case_grounds b) p.0 in
-      let known : (m : Counts) → s ≡ Passed m → FiledWith b q m = λ m k.
-      let t = passed_clear n m (first_of (form_grounds (case_of b) q (certificate_of q))) (sym e ∙ k) in
-      let same : counts_in (case_of b) ≡ m = cc in
-      record {
-        counts = sym same;
-        filing = subst (λ (m : Counts). Filing b q m.resources m.zones m.flowgates) same (filing v (none_holds (form_grounds (case_of b) q (certificate_of q)) t.0));
-      }
-      in
-      (e ∙ rw (first_of_append (case_grounds b) (form_grounds (case_of b) q (certificate_of q)), p.0, p.1), record { known = known })
+-- ---- past 1 to 12
+pub priced : {b q : List ℕ} {n : Counts} → FiledWith b q n → price_ground (case_of b) (certificate_of q) ≡ clear → PricesStand b q n.resources n.zones n.flowgates
+priced {b} {q} h prices =
+    record {
+      case_bytes = h.case_bytes;
+      certificate_bytes = h.certificate_bytes;
+      valid = h.valid;
+      in_range = unless_clear (all (price_right (certificate_of q)) (rows (case_of b))) R.PriceRange prices;
+    }
 
-  -- ---- 1 to 13 are 1 to 11, then 12, then 13
-  pub stages_are : afterwards (afterwards (stage_of (counts_in (case_of b)) (first_of (grounds_to11 b q))) (price_ground (case_of b) (certificate_of q))) (bound_ground (case_of b) (certificate_of q)) ≡ stage_of (counts_in (case_of b)) (first_of (grounds_to13 b q))
-  unfolding grounds_to12 grounds_to13
-  stages_are =
-      let n = counts_in (case_of b) in
-      ap (λ (s : Stage). afterwards s (bound_ground (case_of b) (certificate_of q))) (after_list n (grounds_to11 b q) (price_ground (case_of b) (certificate_of q)))
-      ∙ after_list n (grounds_to12 b q) (bound_ground (case_of b) (certificate_of q))
+-- ---- what is decided of each resource is kept once it is written; where something is refused nothing need be
+pub undecided : {b : List ℕ} {s : Result Counts Refusal} {w : Refusal} {k : List ℤ} → s ≡ Err w → Decided b s k
+undecided h = record { known = λ n e. absurd (let z : ◌≡◌ {A = ℕ} 0 1 = cc in omega arith) }
 
--- ---- one ground more: the answer, and what stays known
-pub kept : {b q : List ℕ} {s : Stage} (g : Finding) {w : Refusal} → Filed b q s → s ≡ Refused w → Advanced b q s g s
-unfolding afterwards
-kept {b} {q} {s} g {w} h e = record { answer = e ∙ sym (rw e); filed = h }
-
-pub refuses : {b q : List ℕ} {s : Stage} {g : Finding} {n : Counts} {w : Refusal} → s ≡ Passed n → g ≡ holds w → Advanced b q s g (Refused w)
-unfolding afterwards
-refuses {b} {q} {s} {g} {n} {w} e h = record { answer = rw (e, h); filed = record { known = λ m k. not_passed k } }
-
-pub passes_on : {b q : List ℕ} {s : Stage} {g : Finding} {n : Counts} → Filed b q s → s ≡ Passed n → g ≡ clear → Advanced b q s g (Passed n)
-unfolding afterwards
-passes_on {b} {q} {s} {g} {n} f e h = record { answer = rw (e, h); filed = record { known = λ m k. f.known m (e ∙ k) } }
-
--- what is decided of each resource is kept once it is written; where something is refused nothing need be
-pub decided : {b : List ℕ} {n : Counts} {k : List ℤ} → Kept (case_of b) n.resources k → Decided b (Passed n) k
-decided {b} {n} {k} h = record { known = λ m e. let same : n ≡ m = cc in rw (← same) h }
-
-pub undecided : {b : List ℕ} {s : Stage} {w : Refusal} {k : List ℤ} → s ≡ Refused w → Decided b s k
-undecided h = record { known = λ n e. not_passed (sym h ∙ e) }
+pub decided : {b : List ℕ} {k : List ℤ} (n : Counts) (s : Result Counts Refusal) (f : Finding) → Kept (case_of b) n.resources k → s ≡ answered n f → Decided b s k
+decided {b} {k} n s clear h e = record { known = λ m o. let same : n ≡ m = cc in rw (← same) h }
+decided {b} {k} n s (holds w) h e = undecided e
 
 -- ---- past 1 to 13
 pub standing : (b q : List ℕ) → first_of (grounds_to13 b q) ≡ clear → Standing b q (case_of b).resources (case_of b).zones (case_of b).flowgates
@@ -112,23 +88,10 @@ standing b q h =
     named to11.0 to11.1 to12.1.0 to13.1.0
   where
     named : Valid b → AllClear (form_grounds (case_of b) q (certificate_of q)) → price_ground (case_of b) (certificate_of q) ≡ clear → bound_ground (case_of b) (certificate_of q) ≡ clear → Standing b q (case_of b).resources (case_of b).zones (case_of b).flowgates
-    named valid form prices amounts =
-        let c = case_of b in
-        let k = certificate_of q in
-        let known = filing b q valid form in
-        record {
-          prices =
-              record {
-                case_bytes = known.case_bytes;
-                certificate_bytes = known.certificate_bytes;
-                valid = valid;
-                in_range = unless_clear (all (price_right k) (rows c)) R.PriceRange prices;
-              };
-          bounded = bounded c k amounts;
-        }
+    named valid form prices amounts = record { prices = priced (filing b q valid form) prices; bounded = bounded (case_of b) (certificate_of q) amounts }
 
 -- of the stage's answer
-module _ (b q : List ℕ) (n : Counts) (h : stage_of (counts_in (case_of b)) (first_of (grounds_to13 b q)) ≡ Passed n) where
+module _ (b q : List ℕ) (n : Counts) (h : answered (counts_in (case_of b)) (first_of (grounds_to13 b q)) ≡ Ok n) where
   pub passed_counts : n ≡ counts_in (case_of b)
   passed_counts = (passed_clear (counts_in (case_of b)) n (first_of (grounds_to13 b q)) h).1
 

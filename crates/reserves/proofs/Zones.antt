@@ -1,11 +1,12 @@
 -- The totals of the eight zones as resources are added one by one: those of the resource's zone grow by what it gives.
+use Rattle.market.specs.declared.PerCurve.{PerCurve}
+use Rattle.market.specs.declared.Kw.{Kw}
 use mathlib.Core.Path.{◌≡◌}
 use mathlib.Core.List.{List}
 use Prim.Native.Nat.{ℕ, ◌+◌, ◌-◌, ◌<◌, ◌≤◌}
 use native.Mathlib.Omega.{arith}
 use lib.IntN.{ℤ}
 use lib.ListN.{get_or, set}
-use Rattle.market.specs.declared.CurveAmounts.{CurveAmounts}
 use Rattle.market.specs.Case.{Curve}
 use Rattle.market.specs.CaseFile.{case_of}
 use Rattle.market.specs.CaseCheck.{most_zones}
@@ -25,7 +26,7 @@ module _ {b q : List ℕ} {r z f : ℕ} (s : Standing b q r z f) (i n : ℕ) (h 
   in_zone y k = reserve_in_zone (case_of b) (certificate_of q).amount y k
 
   -- what it gives
-  abbrev own : CurveAmounts
+  abbrev own : (PerCurve Kw)
   own = curve_amounts_of (λ k. reserve_of (case_of b) (certificate_of q).amount k i)
 
   pub own_zone_from_one : 1 ≤ n
@@ -41,7 +42,7 @@ module _ {b q : List ℕ} {r z f : ℕ} (s : Standing b q r z f) (i n : ℕ) (h 
   zone_same y l = sums_same (in_zone y) i (elsewhere (case_of b) (certificate_of q).amount i y (λ k. l (omega (arith, own_zone_from_one))))
 
   -- d is what an array's read gives beyond the end
-  module _ (d : CurveAmounts) where
+  module _ (d : (PerCurve Kw)) where
     pub zone_room : SumsRoom (get_or (zone_totals b q i) (n - 1) d) own
     zone_room =
         rw (table_entry d (zone_total b q i) most_zones (n - 1) zone_below, own_in_zone)

@@ -3,15 +3,15 @@
 #![tactic(auto)]
 
 ghost use Rattle.std.specs.Prelude.{◌≡◌, cond, ◌<◌, ◌≤◌, pos, nat_abs};
-ghost use Rattle.market.specs.CaseFile.{case_of};
-ghost use Rattle.market.specs.Certificate.{certificate_of};
 ghost use Rattle.market.specs.Rows.{is_spinning};
 ghost use Rattle.market.specs.Records.{kw, curve_amounts_of};
-ghost use Rattle.capabilities.specs.Kept.{Kept};
-ghost use Rattle.prices.specs.Standing.{Standing, SmallAmounts};
+ghost use Rattle.prices.specs.Standing.{SmallAmounts};
 ghost use Rattle.reserves.specs.Given.{SumsRoom, given_by, zoned_amounts_of, added_amounts, totals_of};
+ghost use Rattle.prices.specs.PricedCase.{the_case, the_amounts, case_bytes, certificate_bytes};
 
+use capabilities::KeptCase;
 use market::{Amounts, CurveAmounts, Kw, MOST_ZONES};
+use prices::BoundedCase;
 
 // ---- of one resource
 
@@ -26,16 +26,17 @@ fn spinning(spins: bool, contingency: Kw) -> Kw
 }
 
 // What amounts give to each row, `spin` being what is spinning.
+#[tactic(auto, unfolding(crate::specs::Given::given_by))]
 fn given(a: Amounts, spin: Kw) -> CurveAmounts
     requires { SmallAmounts a × (nat_abs spin.0 ≤ 2000000) }
     ensures { result ≡ given_by a spin }
 {
     let regulation = a.regulation;
     CurveAmounts {
-        operating: units::kw_sum(regulation, a.contingency),
-        regulating_plus_spinning: units::kw_sum(regulation, spin),
+        operating: units::sum(regulation, a.contingency),
+        regulating_plus_spinning: units::sum(regulation, spin),
         regulating: regulation,
-        short_term: units::kw_sum(a.on_line_short_term, a.off_line_short_term),
+        short_term: units::sum(a.on_line_short_term, a.off_line_short_term),
     }
 }
 
@@ -47,20 +48,12 @@ struct ZonedAmounts {
 }
 
 // Of resource i, `spins` being whether its contingency reserve is spinning.
-fn reserve_given(
-    b: &[u8],
-    q: &[u8],
-    r: usize,
-    z: usize,
-    f: usize,
-    i: usize,
-    spins: bool,
-) -> ZonedAmounts
-    requires { Standing b.now q.now r z f × ((i < r) × (spins ≡ is_spinning ((case_of b.now).resource i))) }
-    ensures { result ≡ zoned_amounts_of (case_of b.now) (certificate_of q.now).amount i }
+fn reserve_given(bounded: &BoundedCase<'_>, i: usize, spins: bool) -> ZonedAmounts
+    requires { (i < bounded.now.priced.case.resources) × (spins ≡ is_spinning ((the_case bounded.now.priced).resource i)) }
+    ensures { result ≡ zoned_amounts_of (the_case bounded.now.priced) (the_amounts bounded.now.priced) i }
 {
-    let resource = case_reader::resource_at(b, r, z, f, i);
-    let a = certificate_records::amounts_at(q, r, z, f, i);
+    let resource = bounded.priced.case.resource(i);
+    let a = bounded.priced.certificate.amounts(i);
     let spin = spinning(spins, a.contingency);
     let amounts = given(a, spin);
     ZonedAmounts {
@@ -82,18 +75,19 @@ fn nothing() -> CurveAmounts
 
 // ---- sums
 
+#[tactic(auto, unfolding(crate::specs::Given::added_amounts))]
 fn amounts_sum(a: CurveAmounts, b: CurveAmounts) -> CurveAmounts
     requires { SumsRoom a b }
     ensures { result ≡ added_amounts a b }
 {
     CurveAmounts {
-        operating: units::kw_sum(a.operating, b.operating),
-        regulating_plus_spinning: units::kw_sum(
+        operating: units::sum(a.operating, b.operating),
+        regulating_plus_spinning: units::sum(
             a.regulating_plus_spinning,
             b.regulating_plus_spinning,
         ),
-        regulating: units::kw_sum(a.regulating, b.regulating),
-        short_term: units::kw_sum(a.short_term, b.short_term),
+        regulating: units::sum(a.regulating, b.regulating),
+        short_term: units::sum(a.short_term, b.short_term),
     }
 }
 
@@ -105,21 +99,18 @@ pub struct ReserveTotals {
     pub zones: [CurveAmounts; MOST_ZONES],
 }
 
-pub fn totals(b: &[u8], q: &[u8], r: usize, z: usize, f: usize, kept: &[i32]) -> ReserveTotals
-    requires { Standing b.now q.now r z f × Kept (case_of b.now) r kept.now }
-    ensures { result ≡ totals_of b.now q.now r }
+pub fn totals(kept: &KeptCase<'_>) -> ReserveTotals
+    ensures { result ≡ totals_of (case_bytes kept.now.bounded.priced) (certificate_bytes kept.now.bounded.priced) kept.now.bounded.priced.case.resources }
 {
     let mut market = nothing();
     let mut zones = [market; MOST_ZONES];
-    let mut i: usize = 0;
-    while i < r {
-        let spins = capabilities::spinning_at(kept, i);
-        let one = reserve_given(b, q, r, z, f, i, spins);
+    for i in 0..kept.bounded.priced.case.resources {
+        let spins = kept.spinning(i);
+        let one = reserve_given(&kept.bounded, i, spins);
         let own = one.amounts;
         market = amounts_sum(market, own);
         let zone = one.zone as usize - 1;
         zones[zone] = amounts_sum(zones[zone], own);
-        i += 1;
     }
     ReserveTotals { market, zones }
 }

@@ -18,20 +18,15 @@ module _ (h : Row → ℤ) where
     pub block_count : (n : ℕ) → length (map h (across block (upto n))) ≡ n * w
     block_count n = length-map (across block (upto n)) h ∙ length-across block w long (upto n) ∙ ap (λ (m : ℕ). m * w) (length-upto n)
 
-    -- one more, in the part from `at` on
-    pub block_written : (i at : ℕ) (o out last : List ℤ) → at ≡ i * w → i * w ≤ length o
+    -- one more, in the part from its place on
+    pub block_written : (i : ℕ) (o out last : List ℤ) → i * w ≤ length o
         → out ≡ map h (across block (upto i)) ++ drop (i * w) o
-        → last ≡ map h (block i) ++ drop w (take (length out - at) (drop at out))
-        → put_mid at (length out - at) out last ≡ map h (across block (upto (i + 1))) ++ drop ((i + 1) * w) o
-    block_written i at o out last ea fit eo el =
+        → last ≡ map h (block i) ++ drop w (take (length out - i * w) (drop (i * w) out))
+        → put_mid (i * w) (length out - i * w) out last ≡ map h (across block (upto (i + 1))) ++ drop ((i + 1) * w) o
+    block_written i o out last fit eo el =
         let more : i * w + w ≡ (i + 1) * w = omega arith in
         rw (across-upto block i, map-append h (across block (upto i)) (block i), ← more)
-        (write_on (map h (across block (upto i))) (map h (block i)) o out last (i * w) w at (block_count i) ea fit eo el)
-
-    -- i is n, the code's count, and that is the case's, m
-    pub blocks_done : {i n m : ℕ} → i ≡ n → n ≡ m → (o out : List ℤ) → out ≡ map h (across block (upto i)) ++ drop (i * w) o
-        → out ≡ map h (across block (upto m)) ++ drop (n * w) o
-    blocks_done e f o out eo = rw (← f, ← e) eo
+        (write_on (map h (across block (upto i))) (map h (block i)) o out last (i * w) w (i * w) (block_count i) refl fit eo el)
 
   -- ---- a row for each number
   module _ (row : ℕ → Row) where
@@ -42,9 +37,6 @@ module _ (h : Row → ℤ) where
         → set out i (h (row i)) ≡ map h (map row (upto (i + 1))) ++ drop (i + 1) o
     row_written i o out fit eo =
         rw (map-upto row i, map-append h (map row (upto i)) (row i ∷ [])) (store_on (map h (map row (upto i))) o out (h (row i)) i (row_count_lem i) fit eo)
-
-    pub rows_done : {i n m : ℕ} → i ≡ n → n ≡ m → (o out : List ℤ) → out ≡ map h (map row (upto i)) ++ drop i o → out ≡ map h (map row (upto m)) ++ drop n o
-    rows_done e f o out eo = rw (← f, ← e) eo
 
   -- ---- families together
   module _ (c : Case) where

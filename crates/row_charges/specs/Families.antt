@@ -1,10 +1,11 @@
 -- The charges of rows from the records that are read of a case and a certificate, family by family, and what they ask for, so
 -- that they fit (01, 'Rows', 'Certificate, cost, bound, charges').
+use Rattle.market.specs.declared.PerService.{PerService}
+use Rattle.market.specs.declared.PerCurve.{PerCurve}
+use Rattle.market.specs.declared.Millicents.{Millicents}
+use Rattle.market.specs.declared.Kw.{Kw}
 use Rattle.std.specs.Prelude.{List, [], ◌∷◌, ℕ, ℤ, ◌+ℤ◌, ◌-ℤ◌, ◌*ℤ◌}
-use Rattle.market.specs.declared.Amounts.{Amounts}
-use Rattle.market.specs.declared.CurveAmounts.{CurveAmounts}
 use Rattle.market.specs.declared.LimitPrices.{LimitPrices}
-use Rattle.market.specs.declared.ReservePrices.{ReservePrices}
 use Rattle.market.specs.CaseFile.{case_of}
 use Rattle.market.specs.Rows.{Row}
 use Rattle.market.specs.Certificate.{certificate_of}
@@ -23,7 +24,7 @@ pub record RowChargeRoom (price more less : ℤ) : Type 0 where
   pub product : ProductRoom price (more -ℤ less)
 
 -- ---- four reserve rows
-abbrev pub four_charges : ReservePrices → CurveAmounts → CurveAmounts → List ℤ
+abbrev pub four_charges : (PerCurve Millicents) → (PerCurve Kw) → (PerCurve Kw) → List ℤ
 four_charges prices have need =
     (prices.operating.0 *ℤ (have.operating.0 -ℤ need.operating.0))
     ∷ (prices.regulating_plus_spinning.0 *ℤ (have.regulating_plus_spinning.0 -ℤ need.regulating_plus_spinning.0))
@@ -31,14 +32,14 @@ four_charges prices have need =
     ∷ (prices.short_term.0 *ℤ (have.short_term.0 -ℤ need.short_term.0))
     ∷ []
 
-pub record FourRoom (prices : ReservePrices) (have need : CurveAmounts) : Type 0 where
+pub record FourRoom (prices : (PerCurve Millicents)) (have need : (PerCurve Kw)) : Type 0 where
   pub operating : RowChargeRoom prices.operating.0 have.operating.0 need.operating.0
   pub regulating_plus_spinning : RowChargeRoom prices.regulating_plus_spinning.0 have.regulating_plus_spinning.0 need.regulating_plus_spinning.0
   pub regulating : RowChargeRoom prices.regulating.0 have.regulating.0 need.regulating.0
   pub short_term : RowChargeRoom prices.short_term.0 have.short_term.0 need.short_term.0
 
 -- ---- the five rows of a resource: e+g+c ≤ MAX, e+s ≤ MAX, e-g ≥ MIN, e ≤ HI, e ≥ LO
-abbrev pub five_charges : LimitPrices → Amounts → ResourceLimits → List ℤ
+abbrev pub five_charges : LimitPrices → (PerService Kw) → ResourceLimits → List ℤ
 five_charges prices amounts limits =
     (prices.max_with_reserve.0 *ℤ (limits.max.0 -ℤ (amounts.energy.0 +ℤ amounts.regulation.0 +ℤ amounts.contingency.0)))
     ∷ (prices.max_with_short_term.0 *ℤ (limits.max.0 -ℤ (amounts.energy.0 +ℤ amounts.on_line_short_term.0)))
@@ -47,7 +48,7 @@ five_charges prices amounts limits =
     ∷ (prices.low.0 *ℤ (amounts.energy.0 -ℤ limits.low.0))
     ∷ []
 
-pub record FiveRoom (prices : LimitPrices) (given : Amounts) (limits : ResourceLimits) : Type 0 where
+pub record FiveRoom (prices : LimitPrices) (given : (PerService Kw)) (limits : ResourceLimits) : Type 0 where
   pub amounts : SmallAmounts given
   pub max_with_reserve : RowChargeRoom prices.max_with_reserve.0 limits.max.0 (given.energy.0 +ℤ given.regulation.0 +ℤ given.contingency.0)
   pub max_with_short_term : RowChargeRoom prices.max_with_short_term.0 limits.max.0 (given.energy.0 +ℤ given.on_line_short_term.0)

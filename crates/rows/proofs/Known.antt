@@ -1,4 +1,5 @@
 -- What the searches of a standing certificate's rows know: sizes, records in range, and the rows family by family.
+use Rattle.std.specs.Prelude.{Option, Some, None}
 use mathlib.Core.Path.{◌≡◌, refl, sym, ◌∙◌, ap}
 use mathlib.Core.Bool.{Bool, true, false}
 use mathlib.Core.List.{List, [], ◌∷◌, ◌++◌, map}
@@ -8,8 +9,6 @@ use lib.ListN.{length}
 use Rattle.arith.specs.Sums.{sum_of, upto, across}
 use Rattle.arith.proofs.Lists.{length-across, length-upto, across-one}
 use Rattle.arith.proofs.NaturalSums.{upto-size}
-use Rattle.market.specs.declared.First.{First}
-use Rattle.market.specs.declared.First.TheVariants.{None, At}
 use Rattle.market.specs.declared.Refusal.{Refusal}
 use Rattle.market.specs.Case.{Case, curves}
 use Rattle.market.specs.CaseCheck.{most_resources}
@@ -22,7 +21,7 @@ use Rattle.market.proofs.FirstFailing.{or_else, first_append, first_none, passes
 use Rattle.units.specs.Room.{SumRoom}
 use Rattle.flows.specs.Parts.{EnergyBounded}
 use Rattle.rows.specs.Tests.{first_zone_row}
-use Rattle.rows.proofs.Search.{found_here, found_next}
+use Rattle.units.proofs.Search.{first_here, first_next}
 
 -- ---- energy
 pub energy_room : (q : List ℕ) (r : ℕ) → EnergyBounded q r → r ≤ most_resources → (i : ℕ) → i < r → SumRoom (sum_of (λ j. kw_of (certificate_of q).amount j energy) (upto i)) (kw_of (certificate_of q).amount i energy)
@@ -69,31 +68,33 @@ module _ (t : Row → Bool) (r : ℕ → Refusal) (c : Case) where
       (first_append t r first_zone_row (zone_rows c) (flowgate_rows c ++ limit_rows c) ∙ rw (zone_rows_long c))))
 
   -- row 1 is broken
-  pub balance_broken : t balance_row ≡ false → found_at r (At 1) ≡ first_failing t r 1 (rows c)
-  balance_broken e = found_here r (At 1) 1 (or_else market_found (or_else zones_found network_found)) refl (sym (fails t r 1 balance_row [] e)) ∙ rows_first
+  pub balance_broken : t balance_row ≡ false → found_at r (Some 1) ≡ first_failing t r 1 (rows c)
+  balance_broken e = first_here r (or_else market_found (or_else zones_found network_found)) (Some 1) (sym (fails t r 1 balance_row [] e)) 1 refl ∙ rows_first
 
   -- row 1 is met: the market's rows, then the zones', then the others
   module _ (met : t balance_row ≡ true) where
-    balance_found_lem : found_at r None ≡ balance_found
-    balance_found_lem = sym (passes t r 1 balance_row [] met ∙ first_none t r 2)
+    after_balance : (n : Option ℕ) → found_at r n ≡ or_else market_found (or_else zones_found network_found) → found_at r n ≡ first_failing t r 1 (rows c)
+    after_balance n h = first_next r _ None (sym (passes t r 1 balance_row [] met ∙ first_none t r 2)) n refl h ∙ rows_first
 
-    pub market_broken : (m : First) (p : ℕ) → m ≡ At p → found_at r m ≡ market_found → found_at r m ≡ first_failing t r 1 (rows c)
-    market_broken m p a h = found_next r None m refl balance_found_lem (found_here r m p (or_else zones_found network_found) a h) ∙ rows_first
+    module _ (m : Option ℕ) (h : found_at r m ≡ market_found) where
+      pub market_broken : (p : ℕ) → m ≡ Some p → found_at r (Some p) ≡ first_failing t r 1 (rows c)
+      market_broken p e = after_balance (Some p) (first_here r _ m h p e)
 
-    module _ (m : First) (none : m ≡ None) (h : found_at r m ≡ market_found) where
-      pub zone_broken : (n : First) (p : ℕ) → n ≡ At p → found_at r n ≡ zones_found → found_at r n ≡ first_failing t r 1 (rows c)
-      zone_broken n p a k = found_next r None n refl balance_found_lem (found_next r m n none h (found_here r n p network_found a k)) ∙ rows_first
+      module _ (none : m ≡ None) (n : Option ℕ) (k : found_at r n ≡ zones_found) where
+        pub zone_broken : (p : ℕ) → n ≡ Some p → found_at r (Some p) ≡ first_failing t r 1 (rows c)
+        zone_broken p e = after_balance (Some p) (first_next r _ m h (Some p) none (first_here r network_found n k p e))
 
-      pub rest_broken : (n l : First) → n ≡ None → found_at r n ≡ zones_found → found_at r l ≡ network_found → found_at r l ≡ first_failing t r 1 (rows c)
-      rest_broken n l e k j = found_next r None l refl balance_found_lem (found_next r m l none h (found_next r n l e k j)) ∙ rows_first
+        pub rest_broken : (l : Option ℕ) → n ≡ None → found_at r l ≡ network_found → found_at r l ≡ first_failing t r 1 (rows c)
+        rest_broken l e j = after_balance l (first_next r _ m h l none (first_next r network_found n k l e j))
 
   -- the flowgates' rows, numbered from s, and then the resources'
   module _ (s : ℕ) where
     network_first : or_else (first_failing t r s (flowgate_rows c)) (first_failing t r (s + c.flowgates) (limit_rows c)) ≡ first_failing t r s (flowgate_rows c ++ limit_rows c)
     network_first = sym (first_append t r s (flowgate_rows c) (limit_rows c) ∙ rw (flowgate_rows_long c))
 
-    pub flowgate_broken : (n : First) (p : ℕ) → n ≡ At p → found_at r n ≡ first_failing t r s (flowgate_rows c) → found_at r n ≡ first_failing t r s (flowgate_rows c ++ limit_rows c)
-    flowgate_broken n p a h = found_here r n p (first_failing t r (s + c.flowgates) (limit_rows c)) a h ∙ network_first
+    module _ (n : Option ℕ) (h : found_at r n ≡ first_failing t r s (flowgate_rows c)) where
+      pub flowgate_broken : (p : ℕ) → n ≡ Some p → found_at r (Some p) ≡ first_failing t r s (flowgate_rows c ++ limit_rows c)
+      flowgate_broken p e = first_here r _ n h p e ∙ network_first
 
-    pub limit_broken : (n m : First) → n ≡ None → found_at r n ≡ first_failing t r s (flowgate_rows c) → found_at r m ≡ first_failing t r (s + c.flowgates) (limit_rows c) → found_at r m ≡ first_failing t r s (flowgate_rows c ++ limit_rows c)
-    limit_broken n m e h k = found_next r n m e h k ∙ network_first
+      pub limit_broken : (m : Option ℕ) → n ≡ None → found_at r m ≡ first_failing t r (s + c.flowgates) (limit_rows c) → found_at r m ≡ first_failing t r s (flowgate_rows c ++ limit_rows c)
+      limit_broken m e k = first_next r _ n h m e k ∙ network_first

@@ -17,7 +17,8 @@ use Rattle.market.specs.Outcome.{row_met}
 use Rattle.market.specs.Records.{amounts_of, cleared_of, curve_amounts_of}
 use Rattle.market.proofs.RowSlacks.{rows_in_words}
 use Rattle.limits.specs.Together.{limits_of}
-use Rattle.rows.specs.Tests.{short_tests, limit_tests}
+use Rattle.units.specs.Search.{short_tests}
+use Rattle.rows.specs.Tests.{limit_tests}
 
 -- a row 'at least' whose slack is b - a
 met : (a b : ℤ) {s : ℤ} → s ≡ b -ℤ a → le_z a b ≡ le_z (pos 0) s

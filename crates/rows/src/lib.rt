@@ -9,24 +9,26 @@ ghost use Rattle.market.specs.Case.{curves};
 ghost use Rattle.market.specs.CaseFile.{case_of};
 ghost use Rattle.market.specs.UpperBounds.{energy};
 ghost use Rattle.market.specs.Rows.{balance_row, zone_row, flowgate_row, limit_row, limits, market_rows, zone_rows, flowgate_rows, limit_rows, rows, zone_row_count};
-ghost use Rattle.market.specs.Certificate.{certificate_of};
 ghost use Rattle.market.specs.InWords.{kw_of};
 ghost use Rattle.market.specs.Records.{kw, curve_amounts_of};
 ghost use Rattle.market.specs.Refusals.{found_at, first_failing};
 ghost use Rattle.market.specs.Outcome.{row_met};
 ghost use Rattle.case_records.specs.Places.{ZoneIn};
-ghost use Rattle.certificate_records.specs.CertificateBytes.{CertificateBytes};
-ghost use Rattle.capabilities.specs.Kept.{Kept};
-ghost use Rattle.prices.specs.Standing.{Standing, SmallAmounts};
+ghost use Rattle.prices.specs.Standing.{SmallAmounts};
 ghost use Rattle.flows.specs.Parts.{EnergyBounded, EnergyParts};
 ghost use Rattle.reserves.specs.Given.{market_total, zone_total, zone_totals};
-ghost use Rattle.rows.specs.Tests.{first_false, short_tests, limit_tests, broken_from, most_row, most_first_limit, Numbered, first_zone_row};
+ghost use Rattle.units.specs.Search.{first_false};
+ghost use Rattle.rows.specs.Tests.{limit_tests, broken_from, most_row, most_first_limit, Numbered, first_zone_row};
+ghost use Rattle.prices.specs.PricedCase.{the_case, case_bytes, certificate_bytes};
+ghost use Rattle.certificate_records.specs.Reader.{certificate_in};
 
+use capabilities::KeptCase;
+use certificate_records::CertificateReader;
 use limits::ResourceLimits;
 use market::{
-    Amounts, CurveAmounts, First, Kw, MOST_RESOURCES, MOST_ZONES, RESOURCE_ROWS, SYSTEM_ROWS,
-    ZONE_ROWS,
+    Amounts, CurveAmounts, Kw, MOST_RESOURCES, MOST_ZONES, RESOURCE_ROWS, SYSTEM_ROWS, ZONE_ROWS,
 };
+use prices::BoundedCase;
 
 // Row numbers have 32 bits. Those of the zones begin behind row 1 and the market's.
 const FIRST_ZONE_ROW: u32 = SYSTEM_ROWS as u32 + 1;
@@ -38,273 +40,171 @@ const NUMBERS_A_RESOURCE: u32 = RESOURCE_ROWS as u32;
 // ---- row 1
 
 // The energy of all resources.
-pub fn energy_total(q: &[u8], r: usize, z: usize, f: usize) -> Kw
-    requires { CertificateBytes q.now r z f × EnergyBounded q.now r }
-    ensures { result ≡ kw (sum_of (λ i. kw_of (certificate_of q.now).amount i energy) (upto r)) }
+pub fn energy_total(certificate: &CertificateReader<'_>) -> Kw
+    requires { EnergyBounded certificate.now.bytes.now certificate.now.resources }
+    ensures { result ≡ kw (sum_of (λ i. kw_of (certificate_in certificate.now).amount i energy) (upto certificate.now.resources)) }
 {
     let mut sum = Kw(0);
-    let mut i: usize = 0;
-    while i < r {
-        let a = certificate_records::amounts_at(q, r, z, f, i);
-        sum = units::kw_sum(sum, a.energy);
-        i += 1;
+    for i in 0..certificate.resources {
+        let a = certificate.amounts(i);
+        sum = units::sum(sum, a.energy);
     }
     sum
 }
 
 // Energy is demand, neither less nor more.
-fn balanced(b: &[u8], q: &[u8], r: usize, z: usize, f: usize) -> bool
-    requires { Standing b.now q.now r z f }
-    ensures { result ≡ row_met (case_of b.now) (certificate_of q.now) balance_row }
+fn balanced(bounded: &BoundedCase<'_>) -> bool
+    ensures { result ≡ row_met (the_case bounded.now.priced) (certificate_in bounded.now.priced.certificate) balance_row }
 {
-    let total = energy_total(q, r, z, f);
-    let demand = case_reader::demand(b, r, z, f);
-    if !units::at_least(total, demand) {
-        return false;
-    }
-    units::at_least(demand, total)
+    let total = energy_total(&bounded.priced.certificate);
+    let demand = bounded.priced.case.demand();
+    units::at_least(total, demand) && units::at_least(demand, total)
 }
 
 // ---- reserve rows
 
-// The first of four rows, numbered from `first`, that has less than it needs.
-fn first_short(have: CurveAmounts, need: CurveAmounts, first: u32) -> First
-    requires { Numbered most_row first }
-    ensures { result ≡ first_false first (short_tests have need) }
-{
-    if !units::at_least(have.operating, need.operating) {
-        return First::At(first);
-    }
-    if !units::at_least(have.regulating_plus_spinning, need.regulating_plus_spinning) {
-        return First::At(first + 1);
-    }
-    if !units::at_least(have.regulating, need.regulating) {
-        return First::At(first + 2);
-    }
-    if !units::at_least(have.short_term, need.short_term) {
-        return First::At(first + 3);
-    }
-    First::None
-}
-
 // Market-wide against the cleared quantities: rows 2 to 5.
-fn market_short(b: &[u8], q: &[u8], r: usize, z: usize, f: usize, have: CurveAmounts) -> First
-    requires { Standing b.now q.now r z f × (have ≡ market_total b.now q.now r) }
-    ensures { found_at RowBroken result ≡ broken_from b.now q.now 2 market_rows }
+fn market_short(bounded: &BoundedCase<'_>, have: CurveAmounts) -> Option<u32>
+    requires { have ≡ market_total (case_bytes bounded.now.priced) (certificate_bytes bounded.now.priced) bounded.now.priced.case.resources }
+    ensures { found_at RowBroken result ≡ broken_from (case_bytes bounded.now.priced) (certificate_bytes bounded.now.priced) 2 market_rows }
 {
-    let need = certificate_records::cleared(q, r, z, f);
-    first_short(have, need, 2)
-}
-
-// What a zone needs.
-pub fn required(b: &[u8], r: usize, z: usize, f: usize, zone: usize) -> CurveAmounts
-    requires { ZoneIn b.now zone }
-    ensures { result ≡ curve_amounts_of (λ k. pos ((case_of b.now).zone_requirement zone k)) }
-{
-    let all = case_reader::zone_at(b, r, z, f, zone);
-    CurveAmounts {
-        operating: all.of[0],
-        regulating_plus_spinning: all.of[1],
-        regulating: all.of[2],
-        short_term: all.of[3],
-    }
+    let need = bounded.priced.certificate.cleared();
+    units::first_short(have, need, 2)
 }
 
 // A zone's four rows, numbered from `first`.
-fn zone_short(
-    b: &[u8],
-    q: &[u8],
-    r: usize,
-    z: usize,
-    f: usize,
-    zone: usize,
-    have: CurveAmounts,
-    first: u32,
-) -> First
-    requires standing { Standing b.now q.now r z f × ((zone < z) × Numbered most_row first) }
-    requires have_value { have ≡ zone_total b.now q.now r zone }
-    ensures { found_at RowBroken result ≡ broken_from b.now q.now first (map (zone_row zone) curves) }
+fn zone_short(bounded: &BoundedCase<'_>, zone: usize, have: CurveAmounts, first: u32) -> Option<u32>
+    requires zone { (zone < bounded.now.priced.case.zones) × Numbered most_row first }
+    requires have_value { have ≡ zone_total (case_bytes bounded.now.priced) (certificate_bytes bounded.now.priced) bounded.now.priced.case.resources zone }
+    ensures { found_at RowBroken result ≡ broken_from (case_bytes bounded.now.priced) (certificate_bytes bounded.now.priced) first (map (zone_row zone) curves) }
 {
-    let need = required(b, r, z, f, zone);
-    first_short(have, need, first)
+    let need = bounded.priced.case.zone(zone);
+    units::first_short(have, need, first)
 }
 
-fn zones_short(
-    b: &[u8],
-    q: &[u8],
-    r: usize,
-    z: usize,
-    f: usize,
-    have: [CurveAmounts; MOST_ZONES],
-) -> First
-    requires { Standing b.now q.now r z f × (have ≡ zone_totals b.now q.now r) }
-    ensures { found_at RowBroken result ≡ broken_from b.now q.now first_zone_row (zone_rows (case_of b.now)) }
+fn zones_short(bounded: &BoundedCase<'_>, have: [CurveAmounts; MOST_ZONES]) -> Option<u32>
+    requires { have ≡ zone_totals (case_bytes bounded.now.priced) (certificate_bytes bounded.now.priced) bounded.now.priced.case.resources }
+    ensures { found_at RowBroken result ≡ broken_from (case_bytes bounded.now.priced) (certificate_bytes bounded.now.priced) first_zone_row (zone_rows (the_case bounded.now.priced)) }
 {
-    let mut row = FIRST_ZONE_ROW;
-    let mut zone: usize = 0;
-    while zone < z {
-        let n = zone_short(b, q, r, z, f, zone, have[zone], row);
-        let First::None = n else {
-            return n;
-        };
-        row += NUMBERS_A_ZONE;
-        zone += 1;
+    for zone in 0..bounded.priced.case.zones {
+        let first = FIRST_ZONE_ROW + zone as u32 * NUMBERS_A_ZONE;
+        if let Some(row) = zone_short(bounded, zone, have[zone], first) {
+            return Some(row);
+        }
     }
-    First::None
+    None
 }
 
 // ---- flowgates' rows
 
 // A flowgate's row, numbered `row`: at most the limit flows.
 fn flowgate_over(
-    b: &[u8],
-    q: &[u8],
-    r: usize,
-    z: usize,
-    f: usize,
+    bounded: &BoundedCase<'_>,
     g: usize,
     row: u32,
     high: &[i16],
     low: &[i16],
-) -> First
-    requires standing { Standing b.now q.now r z f × ((g < f) × Numbered most_row row) }
-    requires energy_parts { EnergyParts q.now r high.now low.now }
-    ensures { found_at RowBroken result ≡ broken_from b.now q.now row (flowgate_row g ∷ []) }
+) -> Option<u32>
+    requires flowgate { (g < bounded.now.priced.case.flowgates) × Numbered most_row row }
+    requires energy_parts { EnergyParts (certificate_bytes bounded.now.priced) bounded.now.priced.case.resources high.now low.now }
+    ensures { found_at RowBroken result ≡ broken_from (case_bytes bounded.now.priced) (certificate_bytes bounded.now.priced) row (flowgate_row g ∷ []) }
 {
-    let flows = flows::flow(b, q, r, z, f, g, high, low);
-    let limit = case_reader::flowgate_limit_at(b, r, z, f, g);
+    let flows = flows::flow(bounded, g, high, low);
+    let limit = bounded.priced.case.flowgate_limit(g);
     let most = units::in_watts(limit);
-    if units::watts_at_least(most, flows) {
-        return First::None;
+    if units::at_least(most, flows) {
+        return None;
     }
-    First::At(row)
+    Some(row)
 }
 
-fn flowgates_over(b: &[u8], q: &[u8], r: usize, z: usize, f: usize, first: u32) -> First
-    requires { Standing b.now q.now r z f × Numbered most_first_limit first }
-    ensures { found_at RowBroken result ≡ broken_from b.now q.now first (flowgate_rows (case_of b.now)) }
+fn flowgates_over(bounded: &BoundedCase<'_>, first: u32) -> Option<u32>
+    requires { Numbered most_first_limit first }
+    ensures { found_at RowBroken result ≡ broken_from (case_bytes bounded.now.priced) (certificate_bytes bounded.now.priced) first (flowgate_rows (the_case bounded.now.priced)) }
 {
     let mut high = [0i16; MOST_RESOURCES];
     let mut low = [0i16; MOST_RESOURCES];
-    flows::write_energies(q, r, z, f, &mut high, &mut low);
-    let mut row = first;
-    let mut g: usize = 0;
-    while g < f {
-        let n = flowgate_over(b, q, r, z, f, g, row, &high, &low);
-        let First::None = n else {
-            return n;
-        };
-        row += 1;
-        g += 1;
+    flows::write_energies(&bounded.priced.certificate, &mut high, &mut low);
+    for g in 0..bounded.priced.case.flowgates {
+        if let Some(row) = flowgate_over(bounded, g, first + g as u32, &high, &low) {
+            return Some(row);
+        }
     }
-    First::None
+    None
 }
 
 // ---- each resource's own rows
 
 // The first of five rows, numbered from `first`, that amounts break: e+g+c ≤ MAX, e+s ≤ MAX, e-g ≥ MIN, e ≤ HI, e ≥ LO.
-fn first_outside(a: Amounts, l: ResourceLimits, first: u32) -> First
+fn first_outside(a: Amounts, l: ResourceLimits, first: u32) -> Option<u32>
     requires { SmallAmounts a × Numbered most_row first }
     ensures { result ≡ first_false first (limit_tests a l) }
 {
-    let up = units::kw_sum(a.energy, a.regulation);
-    let with_reserve = units::kw_sum(up, a.contingency);
-    if !units::at_least(l.max, with_reserve) {
-        return First::At(first);
-    }
-    let with_short_term = units::kw_sum(a.energy, a.on_line_short_term);
-    if !units::at_least(l.max, with_short_term) {
-        return First::At(first + 1);
-    }
-    let down = units::kw_difference(a.energy, a.regulation);
-    if !units::at_least(down, l.min) {
-        return First::At(first + 2);
-    }
-    if !units::at_least(l.high, a.energy) {
-        return First::At(first + 3);
-    }
-    if !units::at_least(a.energy, l.low) {
-        return First::At(first + 4);
-    }
-    First::None
+    let up = units::sum(a.energy, a.regulation);
+    let with_reserve = units::sum(up, a.contingency);
+    let with_short_term = units::sum(a.energy, a.on_line_short_term);
+    let down = units::difference(a.energy, a.regulation);
+    units::first_below(
+        [
+            (l.max, with_reserve),
+            (l.max, with_short_term),
+            (down, l.min),
+            (l.high, a.energy),
+            (a.energy, l.low),
+        ],
+        first,
+    )
 }
 
 // The five rows of resource i, numbered from `first`.
-fn resource_outside(
-    b: &[u8],
-    q: &[u8],
-    r: usize,
-    z: usize,
-    f: usize,
-    i: usize,
-    kept: &[i32],
-    first: u32,
-) -> First
-    requires { Standing b.now q.now r z f × ((i < r) × (Numbered most_row first × Kept (case_of b.now) r kept.now)) }
-    ensures { found_at RowBroken result ≡ broken_from b.now q.now first (map (limit_row i) limits) }
+fn resource_outside(kept: &KeptCase<'_>, i: usize, first: u32) -> Option<u32>
+    requires { (i < kept.now.bounded.priced.case.resources) × Numbered most_row first }
+    ensures { found_at RowBroken result ≡ broken_from (case_bytes kept.now.bounded.priced) (certificate_bytes kept.now.bounded.priced) first (map (limit_row i) limits) }
 {
-    let own = capabilities::limits_at(kept, i);
-    let a = certificate_records::amounts_at(q, r, z, f, i);
+    let own = kept.limits(i);
+    let a = kept.bounded.priced.certificate.amounts(i);
     first_outside(a, own, first)
 }
 
-fn resources_outside(
-    b: &[u8],
-    q: &[u8],
-    r: usize,
-    z: usize,
-    f: usize,
-    kept: &[i32],
-    first: u32,
-) -> First
-    requires { Standing b.now q.now r z f × (Numbered most_first_limit first × Kept (case_of b.now) r kept.now) }
-    ensures { found_at RowBroken result ≡ broken_from b.now q.now first (limit_rows (case_of b.now)) }
+fn resources_outside(kept: &KeptCase<'_>, first: u32) -> Option<u32>
+    requires { Numbered most_first_limit first }
+    ensures { found_at RowBroken result ≡ broken_from (case_bytes kept.now.bounded.priced) (certificate_bytes kept.now.bounded.priced) first (limit_rows (the_case kept.now.bounded.priced)) }
 {
-    let mut row = first;
-    let mut i: usize = 0;
-    while i < r {
-        let n = resource_outside(b, q, r, z, f, i, kept, row);
-        let First::None = n else {
-            return n;
-        };
-        row += NUMBERS_A_RESOURCE;
-        i += 1;
+    for i in 0..kept.bounded.priced.case.resources {
+        let at = first + i as u32 * NUMBERS_A_RESOURCE;
+        if let Some(row) = resource_outside(kept, i, at) {
+            return Some(row);
+        }
     }
-    First::None
+    None
 }
 
 // ---- all rows
 
 // The first broken row of a flowgate or of a resource.
-fn network_broken(b: &[u8], q: &[u8], r: usize, z: usize, f: usize, kept: &[i32]) -> First
-    requires { Standing b.now q.now r z f × Kept (case_of b.now) r kept.now }
-    ensures { found_at RowBroken result ≡ broken_from b.now q.now (first_zone_row + z * zone_row_count) (flowgate_rows (case_of b.now) ++ limit_rows (case_of b.now)) }
+fn network_broken(kept: &KeptCase<'_>) -> Option<u32>
+    ensures { found_at RowBroken result ≡ broken_from (case_bytes kept.now.bounded.priced) (certificate_bytes kept.now.bounded.priced) (first_zone_row + kept.now.bounded.priced.case.zones * zone_row_count) (flowgate_rows (the_case kept.now.bounded.priced) ++ limit_rows (the_case kept.now.bounded.priced)) }
 {
-    let first = FIRST_ZONE_ROW + z as u32 * NUMBERS_A_ZONE;
-    let n = flowgates_over(b, q, r, z, f, first);
-    let First::None = n else {
-        return n;
-    };
-    resources_outside(b, q, r, z, f, kept, first + f as u32)
+    let first = FIRST_ZONE_ROW + kept.bounded.priced.case.zones as u32 * NUMBERS_A_ZONE;
+    if let Some(row) = flowgates_over(&kept.bounded, first) {
+        return Some(row);
+    }
+    resources_outside(kept, first + kept.bounded.priced.case.flowgates as u32)
 }
 
 // The first broken row of all.
-pub fn first_broken(b: &[u8], q: &[u8], r: usize, z: usize, f: usize, kept: &[i32]) -> First
-    requires { Standing b.now q.now r z f × Kept (case_of b.now) r kept.now }
-    ensures { found_at RowBroken result ≡ first_failing (row_met (case_of b.now) (certificate_of q.now)) RowBroken 1 (rows (case_of b.now)) }
+pub fn first_broken(kept: &KeptCase<'_>) -> Option<u32>
+    ensures { found_at RowBroken result ≡ first_failing (row_met (the_case kept.now.bounded.priced) (certificate_in kept.now.bounded.priced.certificate)) RowBroken 1 (rows (the_case kept.now.bounded.priced)) }
 {
-    if !balanced(b, q, r, z, f) {
-        return First::At(1);
+    if !balanced(&kept.bounded) {
+        return Some(1);
     }
-    let have = reserves::totals(b, q, r, z, f, kept);
-    let market = market_short(b, q, r, z, f, have.market);
-    let First::None = market else {
-        return market;
-    };
-    let in_zones = have.zones;
-    let zones = zones_short(b, q, r, z, f, in_zones);
-    let First::None = zones else {
-        return zones;
-    };
-    network_broken(b, q, r, z, f, kept)
+    let have = reserves::totals(kept);
+    if let Some(row) = market_short(&kept.bounded, have.market) {
+        return Some(row);
+    }
+    if let Some(row) = zones_short(&kept.bounded, have.zones) {
+        return Some(row);
+    }
+    network_broken(kept)
 }

@@ -14,14 +14,14 @@ use Rattle.market.specs.Certificate.{certificate_of}
 use Rattle.market.specs.Cost.{filled}
 use Rattle.market.specs.Records.{grains}
 use Rattle.market.specs.declared.Kw.{Kw}
-use Rattle.market.specs.declared.OfferSteps.{OfferSteps}
 use Rattle.market.specs.declared.Step.{Step}
 use Rattle.market.proofs.Families.{at_quantity}
 use Rattle.market.proofs.EnergyBounds.{energy_within}
 use Rattle.limits.specs.Widths.{widths_of}
 use Rattle.prices.specs.Standing.{Standing}
 use Rattle.prices.proofs.Known.{resource_below}
-use Rattle.net_prices.specs.declared.Nets.{Nets}
+use Rattle.market.specs.declared.PerService.{PerService}
+use Rattle.market.specs.declared.Millicents.{Millicents}
 use Rattle.case_records.specs.Ranged.{offer_step}
 use Rattle.costs.specs.Steps.{step_worth, steps_worth}
 use Rattle.costs.specs.Worth.{thousands}
@@ -39,14 +39,14 @@ step_worthless steps j = rw (nothing_filled (widths_of steps) j) (*ℤ-zero (ste
 pub nothing_worth : (steps : ℕ → Step) (n : ℕ) → steps_worth steps 0 n ≡ pos 0
 nothing_worth steps n = sum-ext (step_worth steps 0) (λ j. pos 0) (step_worthless steps) (upto n) ∙ sum-zero (upto n)
 
-step_adds_nothing : (nets : Nets) (step : Step) → step_least nets false step ≡ pos 0
+step_adds_nothing : (nets : PerService Millicents) (step : Step) → step_least nets false step ≡ pos 0
 unfolding step_least min_ℤ
 step_adds_nothing nets step = rw (*ℤ-zero (pos 1000 *ℤ step.price.0 +ℤ nets.energy.0))
 
-pub nothing_least : (nets : Nets) (steps : ℕ → Step) (n : ℕ) → sum_of (λ j. step_least nets false (steps j)) (upto n) ≡ pos 0
+pub nothing_least : (nets : PerService Millicents) (steps : ℕ → Step) (n : ℕ) → sum_of (λ j. step_least nets false (steps j)) (upto n) ≡ pos 0
 nothing_least nets steps n = sum-ext (λ j. step_least nets false (steps j)) (λ j. pos 0) (λ j. step_adds_nothing nets (steps j)) (upto n) ∙ sum-zero (upto n)
 
-pub off_line_valued : (steps : OfferSteps) (nets : Nets) (amount : Kw) → amount.0 ≡ pos 0 → StepsValued false steps nets amount (record { worth = thousands (pos 0); least = grains (pos 0) })
+pub off_line_valued : (steps : (List Step)) (nets : PerService Millicents) (amount : Kw) → amount.0 ≡ pos 0 → StepsValued false steps nets amount (record { worth = thousands (pos 0); least = grains (pos 0) })
 off_line_valued steps nets amount e =
     record {
       worth_is = ap thousands (sym (rw e (nothing_worth (offer_step steps) 10)));

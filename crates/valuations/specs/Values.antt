@@ -1,12 +1,14 @@
 -- What a pass over the resources makes: their worth at their prices, and what they add to the bound, with how large that can be.
+use Rattle.market.specs.declared.Step.{Step}
+use Rattle.std.specs.Prelude.{List}
 use Rattle.std.specs.Prelude.{◌≡◌, Bool, ℕ, ℤ, nat_abs}
 use Rattle.arith.specs.Sums.{sum_of, upto}
 use Rattle.market.specs.UpperBounds.{energy}
 use Rattle.market.specs.Sizes.{most_power}
 use Rattle.market.specs.declared.Kw.{Kw}
-use Rattle.market.specs.declared.OfferSteps.{OfferSteps}
 use Rattle.case_records.specs.Ranged.{UpTo, RangedSteps, offer_step}
-use Rattle.net_prices.specs.declared.Nets.{Nets}
+use Rattle.market.specs.declared.PerService.{PerService}
+use Rattle.market.specs.declared.Millicents.{Millicents}
 use Rattle.net_prices.specs.Sizes.{SmallNets}
 use Rattle.costs.specs.Steps.{steps_worth}
 use Rattle.costs.specs.Worth.{thousands}
@@ -20,13 +22,13 @@ pub record Valued (value : Value) (worth least : ℤ) (most : ℕ) : Type 0 wher
   pub least_is : Figure value.least least most
 
 -- ---- a resource's energy steps
-pub record StepsRoom (steps : OfferSteps) (nets : Nets) (amount : Kw) : Type 0 where
+pub record StepsRoom (steps : (List Step)) (nets : PerService Millicents) (amount : Kw) : Type 0 where
   pub small_nets : SmallNets nets
   pub small_steps : SmallSteps steps
   pub ranged_steps : RangedSteps steps
   pub provided : UpTo amount.0 most_power
 
 -- an amount filled into them in order, and the least that each adds, its upper bound being 0 if the resource is not on-line
-abbrev pub StepsValued : Bool → OfferSteps → Nets → Kw → Value → Type 0
+abbrev pub StepsValued : Bool → (List Step) → (PerService Millicents) → Kw → Value → Type 0
 StepsValued on steps nets amount value =
     Valued value (steps_worth (offer_step steps) (nat_abs amount.0) 10) (sum_of (λ j. step_least nets on (offer_step steps j)) (upto 10)) (most_service_term energy)

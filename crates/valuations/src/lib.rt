@@ -3,22 +3,19 @@
 // flowgate at a time; what is decided of a resource is read out of what was kept.
 #![tactic(auto)]
 
-ghost use Rattle.std.specs.Prelude.{◌≡◌, Bool, true, false, ◌*◌, ◌<◌, pos, nat_abs};
+ghost use Rattle.std.specs.Prelude.{◌≡◌, true, false, ◌*◌, ◌<◌, pos};
 ghost use Rattle.arith.specs.Sums.{sum_of, upto};
 ghost use Rattle.market.specs.CaseCheck.{most_resources};
-ghost use Rattle.market.specs.CaseFile.{case_of};
-ghost use Rattle.market.specs.Certificate.{certificate_of};
 ghost use Rattle.market.specs.Prices.{lmp_of};
 ghost use Rattle.market.specs.Records.{millicents};
-ghost use Rattle.market.specs.Sizes.{most_power};
-ghost use Rattle.capabilities.specs.Kept.{Kept};
-ghost use Rattle.prices.specs.Standing.{Standing};
 ghost use Rattle.prices.specs.Written.{Lmps};
 ghost use Rattle.costs.specs.Worth.{resource_worth};
 ghost use Rattle.bounds.specs.Sizes.{most_least_terms, most_resource_terms};
 ghost use Rattle.bounds.specs.Terms.{least_terms, resource_terms};
 ghost use Rattle.valuations.specs.Values.{StepsRoom, StepsValued, Valued};
+ghost use Rattle.prices.specs.PricedCase.{the_case, the_prices, the_amounts, case_bytes, certificate_bytes};
 
+use capabilities::KeptCase;
 use costs::ThousandGrains;
 use market::{Grains, Kw, MOST_RESOURCES, Millicents, OfferSteps};
 use net_prices::Nets;
@@ -33,6 +30,7 @@ pub struct Value {
 // ---- a resource's energy
 
 // The steps of an on-line resource, filled in order.
+#[tactic(auto, using(arith::proofs::SumSteps::sum_steps))]
 fn steps_value(steps: OfferSteps, nets: Nets, energy: Kw) -> Value
     requires { StepsRoom steps nets energy }
     ensures { StepsValued true steps nets energy result }
@@ -40,14 +38,11 @@ fn steps_value(steps: OfferSteps, nets: Nets, energy: Kw) -> Value
     let mut worth = ThousandGrains(0);
     let mut left = energy;
     let mut least = Grains(0);
-    let mut j: usize = 0;
-    while j < 10 {
-        let step = steps.of[j];
+    for step in &steps {
         let filled = costs::fill(left, step.width);
         worth = costs::sum(worth, costs::worth(step.price, filled.part));
         left = filled.left;
-        least = bounds::plus(least, bounds::step_least(nets, true, step));
-        j += 1;
+        least = bounds::plus(least, bounds::step_least(nets, true, *step));
     }
     Value { worth, least }
 }
@@ -69,27 +64,18 @@ fn energy_value(on: bool, steps: OfferSteps, nets: Nets, energy: Kw) -> Value
 // ---- a resource, its LMP being `lmp`
 
 // What is priced of resource i: its steps and its reserves.
-fn priced_value(
-    b: &[u8],
-    q: &[u8],
-    r: usize,
-    z: usize,
-    f: usize,
-    i: usize,
-    kept: &[i32],
-    lmp: Millicents,
-) -> Value
-    requires standing { (Standing b.now q.now r z f × (i < r)) × Kept (case_of b.now) r kept.now }
-    requires lmp_value { lmp ≡ millicents (lmp_of (case_of b.now) (certificate_of q.now).price i) }
-    ensures { Valued result (resource_worth (case_of b.now) (certificate_of q.now).amount i) (least_terms b.now q.now i) most_least_terms }
+fn priced_value(kept: &KeptCase<'_>, i: usize, lmp: Millicents) -> Value
+    requires resource { i < kept.now.bounded.priced.case.resources }
+    requires lmp_value { lmp ≡ millicents (lmp_of (the_case kept.now.bounded.priced) (the_prices kept.now.bounded.priced) i) }
+    ensures { Valued result (resource_worth (the_case kept.now.bounded.priced) (the_amounts kept.now.bounded.priced) i) (least_terms (case_bytes kept.now.bounded.priced) (certificate_bytes kept.now.bounded.priced) i) most_least_terms }
 {
-    let resource = case_reader::resource_at(b, r, z, f, i);
-    let amounts = certificate_records::amounts_at(q, r, z, f, i);
-    let steps = case_reader::offer_steps_at(b, r, z, f, i);
-    let on = capabilities::on_line_at(kept, i);
-    let spins = capabilities::spinning_at(kept, i);
-    let uppers = capabilities::bounds_at(kept, i);
-    let nets = net_prices::nets_for(b, q, r, z, f, i, spins, lmp, resource);
+    let resource = kept.bounded.priced.case.resource(i);
+    let amounts = kept.bounded.priced.certificate.amounts(i);
+    let steps = kept.bounded.priced.case.offer_steps(i);
+    let on = kept.on_line(i);
+    let spins = kept.spinning(i);
+    let uppers = kept.bounds(i);
+    let nets = net_prices::nets_for(&kept.bounded.priced, i, spins, lmp, resource);
     let energy = energy_value(on, steps, nets, amounts.energy);
     let reserves = costs::reserves_worth(resource.offers, amounts);
     let least = bounds::reserves_least(nets, uppers);
@@ -100,24 +86,15 @@ fn priced_value(
 }
 
 // Its own rows, which cost nothing, and what is priced of it.
-fn resource_value(
-    b: &[u8],
-    q: &[u8],
-    r: usize,
-    z: usize,
-    f: usize,
-    i: usize,
-    kept: &[i32],
-    lmp: Millicents,
-) -> Value
-    requires standing { (Standing b.now q.now r z f × (i < r)) × Kept (case_of b.now) r kept.now }
-    requires lmp_value { lmp ≡ millicents (lmp_of (case_of b.now) (certificate_of q.now).price i) }
-    ensures { Valued result (resource_worth (case_of b.now) (certificate_of q.now).amount i) (resource_terms b.now q.now i) most_resource_terms }
+fn resource_value(kept: &KeptCase<'_>, i: usize, lmp: Millicents) -> Value
+    requires resource { i < kept.now.bounded.priced.case.resources }
+    requires lmp_value { lmp ≡ millicents (lmp_of (the_case kept.now.bounded.priced) (the_prices kept.now.bounded.priced) i) }
+    ensures { Valued result (resource_worth (the_case kept.now.bounded.priced) (the_amounts kept.now.bounded.priced) i) (resource_terms (case_bytes kept.now.bounded.priced) (certificate_bytes kept.now.bounded.priced) i) most_resource_terms }
 {
-    let prices = certificate_records::limit_prices_at(q, r, z, f, i);
-    let held = capabilities::limits_at(kept, i);
+    let prices = kept.bounded.priced.certificate.limit_prices(i);
+    let held = kept.limits(i);
     let rows = bounds::limit_value(prices, held);
-    let priced = priced_value(b, q, r, z, f, i, kept, lmp);
+    let priced = priced_value(kept, i, lmp);
     let worth = priced.worth;
     Value {
         worth,
@@ -128,28 +105,25 @@ fn resource_value(
 // ---- all resources
 
 // With their LMPs.
-fn sum_values(b: &[u8], q: &[u8], r: usize, z: usize, f: usize, kept: &[i32], lmps: &[i64]) -> Value
-    requires standing { Standing b.now q.now r z f × Kept (case_of b.now) r kept.now }
-    requires lmps { Lmps b.now q.now r lmps.now }
-    ensures { Valued result (sum_of (resource_worth (case_of b.now) (certificate_of q.now).amount) (upto r)) (sum_of (resource_terms b.now q.now) (upto r)) (most_resources * most_resource_terms) }
+#[tactic(auto, using(arith::proofs::SumSteps::sum_steps))]
+fn sum_values(kept: &KeptCase<'_>, lmps: &[i64]) -> Value
+    requires { Lmps (case_bytes kept.now.bounded.priced) (certificate_bytes kept.now.bounded.priced) kept.now.bounded.priced.case.resources lmps.now }
+    ensures { Valued result (sum_of (resource_worth (the_case kept.now.bounded.priced) (the_amounts kept.now.bounded.priced)) (upto kept.now.bounded.priced.case.resources)) (sum_of (resource_terms (case_bytes kept.now.bounded.priced) (certificate_bytes kept.now.bounded.priced)) (upto kept.now.bounded.priced.case.resources)) (most_resources * most_resource_terms) }
 {
     let mut worth = ThousandGrains(0);
     let mut least = Grains(0);
-    let mut i: usize = 0;
-    while i < r {
-        let one = resource_value(b, q, r, z, f, i, kept, Millicents(lmps[i]));
+    for i in 0..kept.bounded.priced.case.resources {
+        let one = resource_value(kept, i, Millicents(lmps[i]));
         worth = costs::sum(worth, one.worth);
         least = bounds::plus(least, one.least);
-        i += 1;
     }
     Value { worth, least }
 }
 
-pub fn resources_value(b: &[u8], q: &[u8], r: usize, z: usize, f: usize, kept: &[i32]) -> Value
-    requires { Standing b.now q.now r z f × Kept (case_of b.now) r kept.now }
-    ensures { Valued result (sum_of (resource_worth (case_of b.now) (certificate_of q.now).amount) (upto r)) (sum_of (resource_terms b.now q.now) (upto r)) (most_resources * most_resource_terms) }
+pub fn resources_value(kept: &KeptCase<'_>) -> Value
+    ensures { Valued result (sum_of (resource_worth (the_case kept.now.bounded.priced) (the_amounts kept.now.bounded.priced)) (upto kept.now.bounded.priced.case.resources)) (sum_of (resource_terms (case_bytes kept.now.bounded.priced) (certificate_bytes kept.now.bounded.priced)) (upto kept.now.bounded.priced.case.resources)) (most_resources * most_resource_terms) }
 {
     let mut lmps = [0i64; MOST_RESOURCES];
-    prices::write_lmps(b, q, r, z, f, &mut lmps);
-    sum_values(b, q, r, z, f, kept, &lmps)
+    kept.bounded.priced.write_lmps(&mut lmps);
+    sum_values(kept, &lmps)
 }

@@ -7,4 +7,4 @@ use Rattle.bounds.proofs.bound.Goals as goal
 pub returns : goal.returns
 unfolding bound
 returns c =
-    ap grains (c.plus.ensures.is ∙ rw (c.plus-rest.ensures.is, c.common_terms-common.ensures.is, c.requires.1.is, c.curves_least-cleared.ensures.is) (bound_is c.requires.0.prices))
+    ap grains (c.plus.ensures.is ∙ rw (c.plus-rest.ensures.is, c.common_terms-common.ensures.is, c.requires.is, c.curves_least-cleared.ensures.is) (bound_is c.args.bounded.now.standing.prices))

@@ -1,12 +1,9 @@
-use Prim.Native.Nat.{◌-◌, ◌*◌}
+use Prim.Native.Nat.{◌*◌}
+use Rattle.arith.specs.Sums.{sum_of, upto}
 use Rattle.case_records.specs.Ranged.{curve_step}
-use Rattle.bounds.specs.Sizes.{most_curve_step_term}
+use Rattle.bounds.specs.Sizes.{most_curve_step_term, Figure}
 use Rattle.bounds.specs.Terms.{curve_step_least}
-use Rattle.bounds.proofs.Figures.{Summed}
 use Rattle.bounds.proofs.curve_least.Given as goal
 
-abbrev pub invariant-loop-j : goal.invariant-loop-j
-invariant-loop-j l = Summed (λ k. curve_step_least l.price (curve_step l.curve k)) (λ k. k * most_curve_step_term) 4 l.sum l.j
-
-abbrev pub decreases-loop-j : goal.decreases-loop-j
-decreases-loop-j l = 4 - l.j
+abbrev pub invariant-loop-step : goal.invariant-loop-step
+invariant-loop-step l = Figure l.sum (sum_of (λ k. curve_step_least l.price (curve_step l.fn.curve k)) (upto l.step-index)) (l.step-index * most_curve_step_term)

@@ -1,11 +1,9 @@
-use Prim.Native.Nat.{◌-◌, ◌*◌}
-use Rattle.bounds.specs.Sizes.{most_flowgate_term}
+use Prim.Native.Nat.{◌*◌}
+use Rattle.arith.specs.Sums.{sum_of, upto}
+use Rattle.bounds.specs.Sizes.{most_flowgate_term, Figure}
 use Rattle.bounds.specs.Terms.{flowgate_term}
-use Rattle.bounds.proofs.Figures.{Summed}
+use Rattle.prices.specs.PricedCase.{case_bytes, certificate_bytes}
 use Rattle.bounds.proofs.flowgates_sum.Given as goal
 
-abbrev pub invariant-loop-y : goal.invariant-loop-y
-invariant-loop-y l = Summed (flowgate_term l.b l.q) (λ k. k * most_flowgate_term) l.f l.sum l.y
-
-abbrev pub decreases-loop-y : goal.decreases-loop-y
-decreases-loop-y l = l.f - l.y
+abbrev pub invariant-loop-flowgate : goal.invariant-loop-flowgate
+invariant-loop-flowgate l = Figure l.sum (sum_of (flowgate_term (case_bytes l.priced) (certificate_bytes l.priced)) (upto l.flowgate)) (l.flowgate * most_flowgate_term)

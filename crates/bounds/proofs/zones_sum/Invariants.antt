@@ -1,11 +1,9 @@
-use Prim.Native.Nat.{◌-◌, ◌*◌}
-use Rattle.bounds.specs.Sizes.{most_zone_terms}
+use Prim.Native.Nat.{◌*◌}
+use Rattle.arith.specs.Sums.{sum_of, upto}
+use Rattle.bounds.specs.Sizes.{most_zone_terms, Figure}
 use Rattle.bounds.specs.Terms.{zone_terms}
-use Rattle.bounds.proofs.Figures.{Summed}
+use Rattle.prices.specs.PricedCase.{case_bytes, certificate_bytes}
 use Rattle.bounds.proofs.zones_sum.Given as goal
 
-abbrev pub invariant-loop-y : goal.invariant-loop-y
-invariant-loop-y l = Summed (zone_terms l.b l.q) (λ k. k * most_zone_terms) l.z l.sum l.y
-
-abbrev pub decreases-loop-y : goal.decreases-loop-y
-decreases-loop-y l = l.z - l.y
+abbrev pub invariant-loop-zone : goal.invariant-loop-zone
+invariant-loop-zone l = Figure l.sum (sum_of (zone_terms (case_bytes l.priced) (certificate_bytes l.priced)) (upto l.zone)) (l.zone * most_zone_terms)

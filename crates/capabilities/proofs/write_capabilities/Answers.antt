@@ -1,10 +1,8 @@
-use mathlib.Core.Path.{◌≡◌, ◌∙◌}
-use Prim.Native.Nat.{◌+◌, ◌*◌, ◌-◌}
+use mathlib.Core.Path.{◌≡◌, refl}
+use Prim.Native.Nat.{◌+◌, ◌*◌}
 use native.Mathlib.Omega.{arith}
-use lib.ListN.{length}
 use borrow.Author.Rules.{rules}
-use borrow.Rule.Slice.PartMut.{same_len_mid}
-use Rattle.market.specs.CaseFile.{case_of}
+use Rattle.case_reader.specs.Reader.{case_in}
 use Rattle.arith.specs.Sums.{upto, across}
 use Rattle.arith.proofs.Lists.{across-upto}
 use Rattle.arith.proofs.Buffers.{write_on}
@@ -20,17 +18,12 @@ loop-i-init c = search rules
 pub loop-i-preserved : goal.loop-i-preserved
 loop-i-preserved c =
     let k = c.loop-i in
-    let g = numbers_in (case_of c.args.b.now) in
-    let last = c.write_resource.new.out in
-    let e : k.i * number_count + number_count ≡ (k.i + 1) * number_count = omega arith in (
-      omega arith,
-      omega arith,
-      same_len_mid k.at (length k.out - k.at) k.out last c.write_resource.auto.out ∙ k.invariant.2,
-      rw (across-upto g k.i, ← e)
-          (write_on (across g (upto k.i)) (g k.i) c.args.out.now k.out last (k.i * number_count) number_count k.at (blocks_length g number_count (λ i. numbers_count _) k.i) (omega arith) (omega arith) k.invariant.3 c.write_resource.ensures),
-    )
+    let g = numbers_in (case_in c.args.case.now) in
+    let e : k.i * number_count + number_count ≡ (k.i + 1) * number_count = omega arith in
+    rw (across-upto g k.i, ← e)
+    (write_on (across g (upto k.i)) (g k.i) c.args.out.now k.out c.write_resource.new.out (k.i * number_count) number_count (k.i * number_count) (blocks_length g number_count (λ i. numbers_count _) k.i) refl (omega arith) k.invariant c.write_resource.ensures)
 
 pub returns : goal.returns
 returns c =
-    let e : c.loop-i.i ≡ c.args.r = omega arith in
-    rw (← e) (all-kept (case_of c.args.b.now) c.loop-i.i c.loop-i.out _ c.loop-i.invariant.3)
+    let e : c.loop-i.i ≡ c.args.case.now.resources = omega arith in
+    rw (← e) (all-kept (case_in c.args.case.now) c.loop-i.i c.loop-i.out _ c.loop-i.invariant)

@@ -1,20 +1,20 @@
 use mathlib.Core.Path.{ap, ◌∙◌}
+use Rattle.arith.specs.Sums.{upto}
 use Rattle.market.specs.Records.{grains}
-use Rattle.market.specs.Certificate.{certificate_of}
-use Rattle.market.specs.CaseFile.{case_of}
 use Rattle.case_records.proofs.Places.{resources_is}
 use Rattle.costs.proofs.Known.{curves_fit, cost_room, grains_room}
 use Rattle.costs.proofs.Totals.{cost_is}
+use Rattle.prices.specs.PricedCase.{the_case, the_amounts}
 use Rattle.costs.proofs.cost.Goals as goal
 
 pub negative-taken_off-requires : goal.negative-taken_off-requires
-negative-taken_off-requires c = rw c.curves_value-value.ensures (curves_fit c.requires.0)
+negative-taken_off-requires c = rw c.curves_value-value.ensures (curves_fit c.args.bounded.now.standing)
 
 pub sum-requires : goal.sum-requires
-sum-requires c = simp (c.requires.1, c.negative-taken_off.ensures, c.curves_value-value.ensures) (cost_room c.requires.0)
+sum-requires c = simp (c.requires, c.negative-taken_off.ensures, c.curves_value-value.ensures) (cost_room c.args.bounded.now.standing)
 
 pub in_grains-requires : goal.in_grains-requires
-in_grains-requires c = simp (c.sum.ensures, c.requires.1, c.negative-taken_off.ensures, c.curves_value-value.ensures) (grains_room c.requires.0)
+in_grains-requires c = simp (c.sum.ensures, c.requires, c.negative-taken_off.ensures, c.curves_value-value.ensures) (grains_room c.args.bounded.now.standing)
 
 pub returns : goal.returns
-returns c = c.in_grains.ensures ∙ rw (c.sum.ensures, c.requires.1, c.negative-taken_off.ensures, c.curves_value-value.ensures, resources_is c.requires.0.prices.case_bytes) (ap grains (cost_is (case_of c.args.b.now) (certificate_of c.args.q.now).amount))
+returns c = c.in_grains.ensures ∙ rw (c.sum.ensures, c.requires, c.negative-taken_off.ensures, c.curves_value-value.ensures, ap upto (resources_is c.args.bounded.now.standing.prices.case_bytes)) (ap grains (cost_is (the_case c.args.bounded.now.priced) (the_amounts c.args.bounded.now.priced)))

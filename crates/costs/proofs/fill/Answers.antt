@@ -12,12 +12,12 @@ use Rattle.costs.proofs.fill.Goals.{After-lesser-part}
 part : (c : After-lesser-part) → c.lesser-part.result ≡ power (min (nat_abs c.args.width.0) (nat_abs c.args.left.0))
 part c = step_part c.requires.0 c.requires.1 c.lesser-part.ensures
 
-pub kw_difference-requires : goal.kw_difference-requires
-kw_difference-requires c =
+pub difference-requires : goal.difference-requires
+difference-requires c =
     let h = c.requires in
-    let small : nat_abs c.lesser-part.result.0 ≤ most_in_steps = rw (part (goal.at.kw_difference-requires c).After-lesser-part) (omega (arith, h.0.at_most)) in
+    let small : nat_abs c.lesser-part.result.0 ≤ most_in_steps = rw (part (goal.at.difference-requires c).After-lesser-part) (omega (arith, h.0.at_most)) in
     omega (arith, h.0.at_most, h.1.at_most, small)
 
 pub returns : goal.returns
 unfolding filling_of
-returns c = λ i. record { part = part (goal.at.returns c).After-lesser-part i; left = (c.kw_difference.ensures ∙ ap kw (left_after c.requires.0 c.requires.1 (ap (λ (p : Kw). p.0) (part (goal.at.returns c).After-lesser-part)))) i }
+returns c = λ i. record { part = part (goal.at.returns c).After-lesser-part i; left = (c.difference.ensures ∙ ap kw (left_after c.requires.0 c.requires.1 (ap (λ (p : Kw). p.0) (part (goal.at.returns c).After-lesser-part)))) i }

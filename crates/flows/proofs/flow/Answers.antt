@@ -12,24 +12,15 @@ pub loop-i-init : goal.loop-i-init
 unfolding sum_of upto
 loop-i-init c = search rules
 
-pub factor_at-factor-requires : goal.factor_at-factor-requires
-factor_at-factor-requires c = (c.requires.standing.0, (c.requires.standing.1, omega arith))
-
-pub bounds-high-i : goal.bounds-high-i
-bounds-high-i c = omega (arith, c.requires.energy_parts.high.long)
-
 pub added-highs-requires : goal.added-highs-requires
 added-highs-requires c =
     let l = c.loop-i in
-    turn_room c.requires.standing.0 c.args.g c.requires.standing.1 high_of high_small l.i (omega arith) l.invariant.1 c.factor_at-factor.ensures (c.requires.energy_parts.high.each l.i (omega arith))
-
-pub bounds-low-i : goal.bounds-low-i
-bounds-low-i c = omega (arith, c.requires.energy_parts.low.long)
+    turn_room c.args.bounded.now.standing c.args.g c.requires.flowgate high_of high_small l.i (omega arith) l.invariant.0 c.factor_at-factor.ensures (c.requires.energy_parts.high.each l.i (omega arith))
 
 pub added-lows-requires : goal.added-lows-requires
 added-lows-requires c =
     let l = c.loop-i in
-    turn_room c.requires.standing.0 c.args.g c.requires.standing.1 low_of low_small l.i (omega arith) l.invariant.2 c.factor_at-factor.ensures (c.requires.energy_parts.low.each l.i (omega arith))
+    turn_room c.args.bounded.now.standing c.args.g c.requires.flowgate low_of low_small l.i (omega arith) l.invariant.1 c.factor_at-factor.ensures (c.requires.energy_parts.low.each l.i (omega arith))
 
 pub loop-i-preserved : goal.loop-i-preserved
 loop-i-preserved c =
@@ -37,12 +28,11 @@ loop-i-preserved c =
     let factor-is = c.factor_at-factor.ensures in
     let high_is = c.requires.energy_parts.high.each l.i (omega arith) in
     let low-is = c.requires.energy_parts.low.each l.i (omega arith) in (
-      omega arith,
-      turn_sum c.requires.standing.0 c.args.g c.requires.standing.1 high_of high_small l.i (omega arith) l.invariant.1 factor-is high_is c.added-highs.ensures,
-      turn_sum c.requires.standing.0 c.args.g c.requires.standing.1 low_of low_small l.i (omega arith) l.invariant.2 factor-is low-is c.added-lows.ensures,
+      turn_sum c.args.bounded.now.standing c.args.g c.requires.flowgate high_of high_small l.i (omega arith) l.invariant.0 factor-is high_is c.added-highs.ensures,
+      turn_sum c.args.bounded.now.standing c.args.g c.requires.flowgate low_of low_small l.i (omega arith) l.invariant.1 factor-is low-is c.added-lows.ensures,
     )
 
 pub returns : goal.returns
 returns c =
     let l = c.loop-i in
-    c.joined.ensures ∙ ap watts (flow_is c.requires.standing.0 c.args.g c.requires.standing.1 (omega arith) l.invariant.1 l.invariant.2)
+    c.joined.ensures ∙ ap watts (flow_is c.args.bounded.now.standing c.args.g c.requires.flowgate (omega arith) l.invariant.0 l.invariant.1)

@@ -1,6 +1,5 @@
 use mathlib.Core.Path.{◌≡◌, ◌∙◌}
 use native.Mathlib.Omega.{arith}
-use lib.ListN.{length-set}
 use mir.Syntax.{w16}
 use mir.Val.{to_z, of_z}
 use mir.Facts.{to_z-of_z}
@@ -15,27 +14,22 @@ use Rattle.flows.proofs.write_energies.Goals.{After-unsigned-e}
 pub unsigned-e-requires : goal.unsigned-e-requires
 unfolding amounts_of
 unsigned-e-requires c =
-    rw c.amounts_at-a.ensures (energy_range c.requires.certificate_bytes.1 c.loop-i.i (omega arith))
+    rw c.amounts-a.ensures (energy_range c.requires.bounded c.loop-i.i (omega arith))
 
-energy-is : (c : After-unsigned-e) → c.unsigned-e.result ≡ energy_of c.args.q.now c.loop-i.i
+energy-is : (c : After-unsigned-e) → c.unsigned-e.result ≡ energy_of c.args.certificate.now.bytes.now c.loop-i.i
 unfolding amounts_of
-energy-is c = c.unsigned-e.ensures ∙ rw c.amounts_at-a.ensures
+energy-is c = c.unsigned-e.ensures ∙ rw c.amounts-a.ensures
 
 pub narrow-high_part-requires : goal.narrow-high_part-requires
 narrow-high_part-requires c =
-    rw (energy-is (goal.at.narrow-high_part-requires c).After-unsigned-e) (high_small _ (c.requires.certificate_bytes.1.most c.loop-i.i (omega arith)))
+    rw (energy-is (goal.at.narrow-high_part-requires c).After-unsigned-e) (high_small _ (c.requires.bounded.most c.loop-i.i (omega arith)))
 
 pub loop-i-preserved : goal.loop-i-preserved
 loop-i-preserved c =
     let l = c.loop-i in
-    let high_is : to_z w16 (of_z w16 c.narrow-high_part.result) ≡ high_of (energy_of c.args.q.now l.i) = to_z-of_z (sfits_of {w = w16} c.narrow-high_part.type_inv) ∙ c.narrow-high_part.ensures ∙ rw (energy-is (goal.at.loop-i-preserved c).After-unsigned-e) in
-    let low-is : to_z w16 (of_z w16 c.narrow-low_part.result) ≡ low_of (energy_of c.args.q.now l.i) = to_z-of_z (sfits_of {w = w16} c.narrow-low_part.type_inv) ∙ c.narrow-low_part.ensures ∙ rw (energy-is (goal.at.loop-i-preserved c).After-unsigned-e) in
-    rw (high_is, low-is) (
-      omega arith,
-      length-set l.high l.i _ ∙ l.invariant.1,
-      length-set l.low l.i _ ∙ l.invariant.2,
-      record {
-        high = one_kept high_of c.args.q.now l.i l.high (omega arith) l.invariant.3.high;
-        low = one_kept low_of c.args.q.now l.i l.low (omega arith) l.invariant.3.low;
-      },
-    )
+    let high_is : to_z w16 (of_z w16 c.narrow-high_part.result) ≡ high_of (energy_of c.args.certificate.now.bytes.now l.i) = to_z-of_z (sfits_of {w = w16} c.narrow-high_part.type_inv) ∙ c.narrow-high_part.ensures ∙ rw (energy-is (goal.at.loop-i-preserved c).After-unsigned-e) in
+    let low-is : to_z w16 (of_z w16 c.narrow-low_part.result) ≡ low_of (energy_of c.args.certificate.now.bytes.now l.i) = to_z-of_z (sfits_of {w = w16} c.narrow-low_part.type_inv) ∙ c.narrow-low_part.ensures ∙ rw (energy-is (goal.at.loop-i-preserved c).After-unsigned-e) in
+    rw (high_is, low-is) record {
+      high = one_kept high_of c.args.certificate.now.bytes.now l.i l.high (omega arith) l.invariant.high;
+      low = one_kept low_of c.args.certificate.now.bytes.now l.i l.low (omega arith) l.invariant.low;
+    }

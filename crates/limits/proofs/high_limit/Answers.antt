@@ -1,17 +1,13 @@
 use mathlib.Core.Path.{ap, ◌∙◌}
+use native.Mathlib.Nat.{mul_comm}
 use Prim.Native.Nat.{◌*◌}
 use Rattle.market.specs.Limits.{hi_of}
-use Rattle.market.specs.Records.{power}
-use Rattle.limits.proofs.Amounts.{five_times}
-use Rattle.limits.proofs.Fields.{economic_max_is, initial_is, ramp_up_is, told_false, told_true}
+use Rattle.market.specs.Records.{power, record_of, ramps_of, other_powers_of}
+use Rattle.market.specs.declared.Resource.{Resource}
 use Rattle.limits.proofs.high_limit.Goals as goal
 
-pub returns-then-not-on : goal.returns-then-not-on
-unfolding hi_of
-returns-then-not-on c = λ s o e. rw (economic_max_is s e, told_false o c.if-not-on.true-raw)
-
 pub returns : goal.returns
-unfolding hi_of
-returns c = λ s o e. rw (told_true o c.if-not-on.false-raw)
-    (c.plus.ensures.0 s.initial (5 * s.ramp_up) (initial_is s e)
-    (c.ramped-climb.ensures.0 s.ramp_up (ramp_up_is s e) ∙ ap power (five_times s.ramp_up)))
+unfolding hi_of record_of ramps_of other_powers_of
+returns c = λ s o e. rw (← o, c.if-not-on.false)
+    (c.plus.ensures.0 s.initial (5 * s.ramp_up) (ap (λ (r : Resource). r.other_powers.initial) e)
+    (c.ramped-climb.ensures.0 s.ramp_up (ap (λ (r : Resource). r.ramps.up) e) ∙ ap power (mul_comm s.ramp_up 5)))

@@ -2,39 +2,38 @@ use Rattle.net_prices.proofs.Known.{zone_is, offers_small, limit_prices_small, l
 use Rattle.prices.proofs.Known.{zone_from_one, case_ranges, prices_in_range, resource_below, zone_in_case}
 use Rattle.prices.specs.ZonePrices.{zone_prices_of}
 use Rattle.market.specs.Records.{record_of}
-use Rattle.market.specs.Certificate.{certificate_of}
-use Rattle.market.specs.CaseFile.{case_of}
 use Prim.Native.Nat.{◌-◌}
 use mathlib.Core.Path.{◌≡◌, ◌∙◌}
 use Rattle.net_prices.proofs.nets_for.Goals as goal
 use Rattle.net_prices.proofs.nets_for.Goals.{After-zone_prices-prices, Start}
+use Rattle.prices.specs.PricedCase.{the_case, the_prices}
 
-zone : (c : Start) → c.args.resource.state.zone ≡ ((case_of c.args.b.now).resource c.args.i).zone
-zone c = zone_is ((case_of c.args.b.now).resource c.args.i) c.requires.prices_stand.1.1
+zone : (c : Start) → c.args.resource.state.zone ≡ ((the_case c.args.priced.now).resource c.args.i).zone
+zone c = zone_is ((the_case c.args.priced.now).resource c.args.i) c.requires.resource.1.1
 
 zone-prices : (c : After-zone_prices-prices) →
-    c.zone_prices-prices.result ≡ zone_prices_of (certificate_of c.args.q.now).price (((case_of c.args.b.now).resource c.args.i).zone - 1)
-zone-prices c = c.zone_prices-prices.ensures ∙ rw (zone_is ((case_of c.args.b.now).resource c.args.i) c.requires.prices_stand.1.1)
+    c.zone_prices-prices.result ≡ zone_prices_of (the_prices c.args.priced.now) (((the_case c.args.priced.now).resource c.args.i).zone - 1)
+zone-prices c = c.zone_prices-prices.ensures ∙ rw (zone_is ((the_case c.args.priced.now).resource c.args.i) c.requires.resource.1.1)
 
 pub zone_prices-prices-requires : goal.zone_prices-prices-requires
-zone_prices-prices-requires c = rw (zone (goal.at.zone_prices-prices-requires c).Start) (c.requires.prices_stand.0.0, zone_in_case c.requires.prices_stand.0.0 c.requires.prices_stand.0.1)
+zone_prices-prices-requires c = rw (zone (goal.at.zone_prices-prices-requires c).Start) (zone_in_case c.args.priced.now.prices_stand c.requires.resource.0)
 
 pub nets_of-requires : goal.nets_of-requires
 unfolding record_of
 nets_of-requires c =
     let i = c.args.i in
-    let h = case_ranges c.requires.prices_stand.0.0 in
-    let p = prices_in_range c.requires.prices_stand.0.0 in
-    let n = resource_below c.requires.prices_stand.0.0 c.requires.prices_stand.0.1 in
-    rw (c.requires.prices_stand.1.1, c.limit_prices_at-own.ensures, c.requires.lmp_value, zone-prices (goal.at.nets_of-requires c).After-zone_prices-prices)
+    let h = case_ranges c.args.priced.now.prices_stand in
+    let p = prices_in_range c.args.priced.now.prices_stand in
+    let n = resource_below c.args.priced.now.prices_stand c.requires.resource.0 in
+    rw (c.requires.resource.1.1, c.limit_prices-own.ensures, c.requires.lmp_value, zone-prices (goal.at.nets_of-requires c).After-zone_prices-prices)
     (offers_small _ _ h p i n, (limit_prices_small _ _ h p i n, (lmp_small _ _ h p i n, zone_prices_small _ _ h p i n)))
 
 pub returns : goal.returns
 unfolding record_of
 returns c =
     c.nets_of.ensures
-    ∙ rw (c.requires.prices_stand.1.0, c.requires.prices_stand.1.1, c.limit_prices_at-own.ensures, c.requires.lmp_value, zone-prices (goal.at.returns c).After-zone_prices-prices)
-    (nets_are _ _ (case_ranges c.requires.prices_stand.0.0) (prices_in_range c.requires.prices_stand.0.0) c.args.i (resource_below c.requires.prices_stand.0.0 c.requires.prices_stand.0.1))
+    ∙ rw (c.requires.resource.1.0, c.requires.resource.1.1, c.limit_prices-own.ensures, c.requires.lmp_value, zone-prices (goal.at.returns c).After-zone_prices-prices)
+    (nets_are _ _ (case_ranges c.args.priced.now.prices_stand) (prices_in_range c.args.priced.now.prices_stand) c.args.i (resource_below c.args.priced.now.prices_stand c.requires.resource.0))
 
 pub overflow_sub-zone : goal.overflow_sub-zone
-overflow_sub-zone c = rw (zone (goal.at.overflow_sub-zone c).Start) (zone_from_one c.requires.prices_stand.0.0 c.requires.prices_stand.0.1)
+overflow_sub-zone c = rw (zone (goal.at.overflow_sub-zone c).Start) (zone_from_one c.args.priced.now.prices_stand c.requires.resource.0)

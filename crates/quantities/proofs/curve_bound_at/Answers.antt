@@ -3,4 +3,4 @@ use Rattle.case_records.proofs.Ranged.{valid_curve}
 use Rattle.quantities.proofs.curve_bound_at.Goals as goal
 
 pub curve_bound-requires : goal.curve_bound-requires
-curve_bound-requires c = rw c.curve_at.ensures (valid_curve c.args.b.now c.requires.0 (curve_numbered c.args.k))
+curve_bound-requires c = rw c.curve.ensures (valid_curve _ c.requires.0 (curve_numbered c.args.k))

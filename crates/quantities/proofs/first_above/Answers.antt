@@ -1,27 +1,31 @@
-use mathlib.Core.Path.{◌≡◌}
-use mathlib.Core.List.{map}
-use Rattle.market.specs.declared.First.TheVariants.{None, At}
+use Rattle.std.proofs.Common.{◌≡◌, ◌∙◌, ap, map}
+use Rattle.std.specs.Prelude.{Some, None}
+use Rattle.arith.specs.Sums.{upto}
 use Rattle.market.specs.declared.Refusal.TheVariants.{AboveBound}
-use Rattle.market.specs.CaseFile.{case_of}
 use Rattle.market.specs.Case.{curves}
 use Rattle.market.specs.UpperBounds.{cleared_quantity, upper_bound}
-use Rattle.market.specs.Certificate.{certificate_of}
+use Rattle.certificate_records.specs.Reader.{certificate_in}
+use Rattle.prices.specs.PricedCase.{the_case, the_amounts}
 use Rattle.market.specs.Refusals.{first_failing, found_at}
 use Rattle.market.specs.Outcome.{within_bound}
 use Rattle.case_records.proofs.Places.{resources_is}
-use Rattle.quantities.proofs.Above.{among_cleared, among_provided}
+use Rattle.units.proofs.Search.{first_false_lem, first_here, first_next}
+use Rattle.quantities.proofs.Above.{cleared_tests, in_turn}
 use Rattle.quantities.proofs.first_above.Goals as goal
-use Rattle.quantities.proofs.first_above.Goals.{After-cleared_above-found}
+use Rattle.quantities.proofs.first_above.Goals.{After-first_short}
 
-found : (c : After-cleared_above-found) → found_at AboveBound c.cleared_above-found.result ≡ first_failing (within_bound (case_of c.args.b.now) (certificate_of c.args.q.now)) AboveBound 1 (map cleared_quantity curves)
-found c = c.cleared_above-found.ensures (certificate_of c.args.q.now).amount (upper_bound (case_of c.args.b.now)) c.cleared-given.ensures c.curve_bounds-most.ensures
+cleared : (c : After-first_short) → found_at AboveBound c.first_short.result ≡ first_failing (within_bound (the_case c.args.priced.now) (certificate_in c.args.priced.now.certificate)) AboveBound 1 (map cleared_quantity curves)
+cleared c =
+    rw (c.first_short.ensures, c.cleared-given.ensures, c.curve_bounds-most.ensures, cleared_tests (the_amounts c.args.priced.now) (upper_bound (the_case c.args.priced.now)))
+    (first_false_lem (within_bound (the_case c.args.priced.now) (certificate_in c.args.priced.now.certificate)) AboveBound 1 (map cleared_quantity curves))
 
-pub returns-in_default : goal.returns-in_default
-returns-in_default c =
-    let at : c.cleared_above-found.result ≡ At c.in_default.field-0 = cc in
-    among_cleared (within_bound (case_of c.args.b.now) (certificate_of c.args.q.now)) (case_of c.args.b.now) c.cleared_above-found.result _ (found (goal.at.returns-in_default c).After-cleared_above-found) at
+pub returns-in-Some : goal.returns-in-Some
+returns-in-Some c =
+    let e : c.first_short.result ≡ Some c.in-Some.place = cc in
+    first_here AboveBound _ c.first_short.result (cleared (goal.at.returns-in-Some c).After-first_short) c.in-Some.place e ∙ in_turn _ (the_case c.args.priced.now)
 
 pub returns : goal.returns
 returns c =
-    let none : c.cleared_above-found.result ≡ None = cc in
-    among_provided (within_bound (case_of c.args.b.now) (certificate_of c.args.q.now)) (case_of c.args.b.now) _ c.cleared_above-found.result c.first_provided_above.result (resources_is c.requires.0.case_bytes) (found (goal.at.returns c).After-cleared_above-found) none c.first_provided_above.ensures
+    let e : c.first_short.result ≡ None = cc in
+    let rest = rw (ap upto (resources_is c.args.priced.now.case.whole)) at c.first_provided_above.ensures in
+    first_next AboveBound _ c.first_short.result (cleared (goal.at.returns c).After-first_short) c.first_provided_above.result e rest ∙ in_turn _ (the_case c.args.priced.now)

@@ -1,44 +1,37 @@
-use mathlib.Core.Path.{◌≡◌, refl}
-use Prim.Native.Nat.{◌<◌}
-use native.Mathlib.Omega.{arith}
+use Rattle.std.proofs.Common.{◌≡◌, ◌+◌, ◌*◌, arith}
 use Rattle.market.specs.declared.Refusal.TheVariants.{AboveBound}
-use Rattle.market.specs.CaseFile.{case_of}
 use Rattle.market.specs.UpperBounds.{upper_bound}
-use Rattle.market.specs.Certificate.{certificate_of}
+use Rattle.case_records.proofs.Places.{resources_is}
+use Rattle.case_records.proofs.Ranged.{valid_steps}
+use Rattle.certificate_records.specs.Reader.{certificate_in}
+use Rattle.prices.specs.PricedCase.{the_case, the_amounts}
 use Rattle.market.specs.Refusals.{first_failing, found_at}
 use Rattle.market.specs.Outcome.{within_bound}
-use Rattle.quantities.proofs.Figures.{steps_ranged}
-use Rattle.quantities.proofs.Above.{provided, none_yet, still_none, found_here}
+use Rattle.units.proofs.Search.{search_none, search_more, search_stop}
+use Rattle.quantities.specs.Places.{first_provided, places_each}
+use Rattle.quantities.proofs.Above.{provided, five}
 use Rattle.quantities.proofs.first_provided_above.Goals as goal
-use Rattle.quantities.proofs.first_provided_above.Goals.{After-provided_above-found}
+use Rattle.quantities.proofs.first_provided_above.Goals.{After-provided_above}
 
 pub loop-i-init : goal.loop-i-init
-loop-i-init c = (omega arith, refl, none_yet (within_bound (case_of c.args.b.now) (certificate_of c.args.q.now)))
+loop-i-init c = search_none _ _ provided places_each five _
 
 pub service_bounds-most-requires : goal.service_bounds-most-requires
-service_bounds-most-requires c = steps_ranged c.requires.0 c.loop-i.i (omega arith) c.offer_steps_at.ensures
+service_bounds-most-requires c =
+    let p = c.args.priced.now in
+    rw c.offer_steps.ensures (valid_steps _ p.prices_stand.valid c.loop-i.i (omega (arith, resources_is p.case.whole)))
 
-below : (c : After-provided_above-found) → c.loop-i.i < c.args.r
-below c = omega arith
-
-found : (c : After-provided_above-found) →
-    let l = c.loop-i in
-    found_at AboveBound c.provided_above-found.result ≡ first_failing (within_bound (case_of c.args.b.now) (certificate_of c.args.q.now)) AboveBound l.place (provided l.i)
+found : (c : After-provided_above) → found_at AboveBound c.provided_above.result ≡ first_failing (within_bound (the_case c.args.priced.now) (certificate_in c.args.priced.now.certificate)) AboveBound (first_provided + c.loop-i.i * places_each) (provided c.loop-i.i)
 found c =
-    let l = c.loop-i in
-    let case = case_of c.args.b.now in
-    let kept = c.requires.1.each l.i (below c) in
-    let on = c.on_line_at.ensures case kept in
-    let reserves = c.bounds_at.ensures case kept in
-    let most = c.service_bounds-most.ensures case l.i on reserves c.offer_steps_at.ensures in
-    c.provided_above-found.ensures (certificate_of c.args.q.now).amount (upper_bound case) l.i c.amounts_at-given.ensures most
+    let i = c.loop-i.i in
+    let p = c.args.priced.now in
+    let case = the_case p in
+    let kept = c.requires.each i (omega arith) in
+    let most = c.service_bounds-most.ensures case i (c.on_line_at.ensures case kept) (c.bounds_at.ensures case kept) c.offer_steps.ensures in
+    c.provided_above.ensures (the_amounts p) (upper_bound case) i c.amounts-given.ensures most
 
-pub returns-in_default : goal.returns-in_default
-returns-in_default c =
-    let l = c.loop-i in
-    found_here (within_bound (case_of c.args.b.now) (certificate_of c.args.q.now)) _ l.i l.place c.provided_above-found.result c.in_default.field-0 (omega arith) l.invariant.1 l.invariant.2 (found (goal.at.returns-in_default c).After-provided_above-found) cc
+pub returns-in-Some : goal.returns-in-Some
+returns-in-Some c = search_stop _ _ provided places_each five _ c.loop-i.i c.loop-i.invariant c.provided_above.result (found (goal.at.returns-in-Some c).After-provided_above) _ c.in-Some.place (omega arith) cc
 
 pub loop-i-preserved : goal.loop-i-preserved
-loop-i-preserved c =
-    let l = c.loop-i in
-    (omega arith, omega arith, still_none (within_bound (case_of c.args.b.now) (certificate_of c.args.q.now)) l.i l.place c.provided_above-found.result l.invariant.1 l.invariant.2 (found (goal.at.loop-i-preserved c).After-provided_above-found) cc)
+loop-i-preserved c = search_more _ _ provided places_each five _ c.loop-i.i c.loop-i.invariant c.provided_above.result (found (goal.at.loop-i-preserved c).After-provided_above) cc

@@ -14,7 +14,9 @@ use Rattle.prices.proofs.Known.{case_ranges, prices_in_range, flowgate_below, fl
 use Rattle.row_charges.proofs.FromRecords.{flowgate_charge}
 use Rattle.row_charges.proofs.Fit.{most_side, limit_side, flow_side, flow_value_room}
 use Rattle.row_charges.proofs.flowgate_charge.Goals as goal
-use Rattle.row_charges.proofs.flowgate_charge.Goals.{After-watts_difference-slack, Start}
+use Rattle.row_charges.proofs.flowgate_charge.Goals.{After-difference-slack, Start}
+use Rattle.certificate_records.specs.Reader.{certificate_in}
+use Rattle.prices.specs.PricedCase.{the_case, the_prices, the_amounts, case_bytes, certificate_bytes}
 
 -- the limit and the flow
 abbrev most : List ℕ → ℕ → ℤ
@@ -23,36 +25,36 @@ most b g = pos 1000 *ℤ (case_of b).flowgate_limit g
 abbrev flows : List ℕ → List ℕ → ℕ → ℕ → ℤ
 flows b q r g = sum_of (λ i. (case_of b).shift_factor g i *ℤ kw_of (certificate_of q).amount i energy) (upto r)
 
-limit-most : (c : Start) → nat_abs (most c.args.b.now c.args.g) ≤ most_side
+limit-most : (c : Start) → nat_abs (most (case_bytes c.args.bounded.now.priced) c.args.g) ≤ most_side
 limit-most c =
-    let k = certificate_of c.args.q.now in
-    let p = c.requires.standing.0.prices in
-    limit_side (case_of c.args.b.now) k.amount k.price (case_ranges p) (prices_in_range p) c.requires.standing.0.bounded c.args.g (flowgate_below p c.requires.standing.1)
+    let k = certificate_in c.args.bounded.now.priced.certificate in
+    let p = c.args.bounded.now.standing.prices in
+    limit_side (the_case c.args.bounded.now.priced) k.amount k.price (case_ranges p) (prices_in_range p) c.args.bounded.now.standing.bounded c.args.g (flowgate_below p c.requires.flowgate)
 
-flow-most : (c : Start) → nat_abs (flows c.args.b.now c.args.q.now c.args.r c.args.g) ≤ most_side
+flow-most : (c : Start) → nat_abs (flows (case_bytes c.args.bounded.now.priced) (certificate_bytes c.args.bounded.now.priced) c.args.bounded.now.priced.case.resources c.args.g) ≤ most_side
 flow-most c =
-    let k = certificate_of c.args.q.now in
-    let p = c.requires.standing.0.prices in
-    flow_side (case_of c.args.b.now) k.amount k.price (case_ranges p) (prices_in_range p) c.requires.standing.0.bounded c.args.r c.args.g (resources_is p.case_bytes) (flowgate_below p c.requires.standing.1)
+    let k = certificate_in c.args.bounded.now.priced.certificate in
+    let p = c.args.bounded.now.standing.prices in
+    flow_side (the_case c.args.bounded.now.priced) k.amount k.price (case_ranges p) (prices_in_range p) c.args.bounded.now.standing.bounded c.args.bounded.now.priced.case.resources c.args.g (resources_is p.case_bytes) (flowgate_below p c.requires.flowgate)
 
 pub in_watts-most-requires : goal.in_watts-most-requires
-in_watts-most-requires c = rw c.flowgate_limit_at-limit.ensures (limit_room c.requires.standing.0.prices c.args.g c.requires.standing.1)
+in_watts-most-requires c = rw c.flowgate_limit-limit.ensures (limit_room c.args.bounded.now.standing.prices c.args.g c.requires.flowgate)
 
-pub watts_difference-slack-requires : goal.watts_difference-slack-requires
-watts_difference-slack-requires c =
-    rw (c.in_watts-most.ensures, c.flowgate_limit_at-limit.ensures, c.flow-flows.ensures) (omega (arith, limit-most (goal.at.watts_difference-slack-requires c).Start, flow-most (goal.at.watts_difference-slack-requires c).Start))
+pub difference-slack-requires : goal.difference-slack-requires
+difference-slack-requires c =
+    rw (c.in_watts-most.ensures, c.flowgate_limit-limit.ensures, c.flow-flows.ensures) (omega (arith, limit-most (goal.at.difference-slack-requires c).Start, flow-most (goal.at.difference-slack-requires c).Start))
 
-slack-is : (c : After-watts_difference-slack) →
-    c.watts_difference-slack.result ≡ watts (most c.args.b.now c.args.g -ℤ flows c.args.b.now c.args.q.now c.args.r c.args.g)
-slack-is c = c.watts_difference-slack.ensures ∙ rw (c.in_watts-most.ensures, c.flowgate_limit_at-limit.ensures, c.flow-flows.ensures)
+slack-is : (c : After-difference-slack) →
+    c.difference-slack.result ≡ watts (most (case_bytes c.args.bounded.now.priced) c.args.g -ℤ flows (case_bytes c.args.bounded.now.priced) (certificate_bytes c.args.bounded.now.priced) c.args.bounded.now.priced.case.resources c.args.g)
+slack-is c = c.difference-slack.ensures ∙ rw (c.in_watts-most.ensures, c.flowgate_limit-limit.ensures, c.flow-flows.ensures)
 
 pub flow_value-requires : goal.flow_value-requires
 flow_value-requires c =
-    rw (slack-is (goal.at.flow_value-requires c).After-watts_difference-slack, c.flowgate_price_at-price.ensures)
-    (flow_value_room _ (most c.args.b.now c.args.g) (flows c.args.b.now c.args.q.now c.args.r c.args.g) (flowgate_size_lem c.requires.standing.0.prices _ (omega (arith, c.requires.standing.1))) (limit-most (goal.at.flow_value-requires c).Start) (flow-most (goal.at.flow_value-requires c).Start))
+    rw (slack-is (goal.at.flow_value-requires c).After-difference-slack, c.flowgate_price-price.ensures)
+    (flow_value_room _ (most (case_bytes c.args.bounded.now.priced) c.args.g) (flows (case_bytes c.args.bounded.now.priced) (certificate_bytes c.args.bounded.now.priced) c.args.bounded.now.priced.case.resources c.args.g) (flowgate_size_lem c.args.bounded.now.standing.prices _ (omega (arith, c.requires.flowgate))) (limit-most (goal.at.flow_value-requires c).Start) (flow-most (goal.at.flow_value-requires c).Start))
 
 pub returns : goal.returns
 returns c =
     c.flow_value.ensures
-    ∙ rw (slack-is (goal.at.returns c).After-watts_difference-slack, c.flowgate_price_at-price.ensures)
-    (ap grains (flowgate_charge (case_of c.args.b.now) (certificate_of c.args.q.now).amount (certificate_of c.args.q.now).price c.args.r c.args.g (resources_is c.requires.standing.0.prices.case_bytes)))
+    ∙ rw (slack-is (goal.at.returns c).After-difference-slack, c.flowgate_price-price.ensures)
+    (ap grains (flowgate_charge (the_case c.args.bounded.now.priced) (the_amounts c.args.bounded.now.priced) (the_prices c.args.bounded.now.priced) c.args.bounded.now.priced.case.resources c.args.g (resources_is c.args.bounded.now.standing.prices.case_bytes)))

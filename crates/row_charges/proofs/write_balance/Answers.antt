@@ -1,8 +1,8 @@
+use Rattle.prices.proofs.SameCounts.{same_resources}
 use mathlib.Core.List.{[], ◌∷◌}
-use native.Mathlib.Omega.{arith}
-use Rattle.arith.proofs.Machine.{read_back}
-use Rattle.market.specs.CaseFile.{case_of}
-use Rattle.market.specs.Certificate.{certificate_of}
+use Rattle.arith.specs.Sums.{upto}
+use Rattle.std.proofs.Common.{◌≡◌, ap, arith, rules, w64, to_z, of_z}
+use Rattle.std.proofs.lemmas.Int.{to_z-of_z}
 use Rattle.market.specs.Rows.{balance_row}
 use Rattle.case_records.proofs.Places.{resources_is}
 use Rattle.prices.proofs.Known.{case_ranges, prices_in_range}
@@ -11,24 +11,28 @@ use Rattle.arith.proofs.Buffers.{store_front}
 use Rattle.row_charges.specs.Families.{row_charge_in}
 use Rattle.row_charges.proofs.FromRecords.{balance_charge}
 use Rattle.row_charges.proofs.Fit.{balance_room}
+use Rattle.prices.specs.PricedCase.{the_case, the_prices, the_amounts, case_bytes, certificate_bytes}
 use Rattle.row_charges.proofs.write_balance.Goals as goal
 
 pub energy_total-total-requires : goal.energy_total-total-requires
-energy_total-total-requires c = (c.requires.0.prices.certificate_bytes, energy_bounded c.requires.0)
+energy_total-total-requires c = rw (same_resources c.args.bounded.now.priced) (energy_bounded c.args.bounded.now.standing)
 
 pub charge-value-requires : goal.charge-value-requires
 charge-value-requires c =
-    rw (c.balance_price-price.ensures, c.energy_total-total.ensures, c.demand-demand.ensures)
-    (balance_room (case_of c.args.b.now) (certificate_of c.args.q.now).amount (certificate_of c.args.q.now).price (case_ranges c.requires.0.prices) (prices_in_range c.requires.0.prices) c.requires.0.bounded c.args.r (resources_is c.requires.0.prices.case_bytes))
+    rw (c.balance_price-price.ensures, c.energy_total-total.ensures, ap upto (same_resources c.args.bounded.now.priced), c.demand-demand.ensures)
+    (balance_room (the_case c.args.bounded.now.priced) (the_amounts c.args.bounded.now.priced) (the_prices c.args.bounded.now.priced) (case_ranges c.args.bounded.now.standing.prices) (prices_in_range c.args.bounded.now.standing.prices) c.args.bounded.now.standing.bounded c.args.bounded.now.priced.case.resources (resources_is c.args.bounded.now.standing.prices.case_bytes))
 
 pub returns : goal.returns
 returns c =
+    let value = c.charge-value.result.0 in
+    let e : to_z w64 (of_z w64 value) ≡ value = search (rules, to_z-of_z) in
     rw (
-      read_back c.struct_told-1.given.0.1,
+      e,
       c.charge-value.ensures,
       c.balance_price-price.ensures,
       c.energy_total-total.ensures,
+      ap upto (same_resources c.args.bounded.now.priced),
       c.demand-demand.ensures,
-      balance_charge (case_of c.args.b.now) (certificate_of c.args.q.now).amount (certificate_of c.args.q.now).price c.args.r (resources_is c.requires.0.prices.case_bytes),
+      balance_charge (the_case c.args.bounded.now.priced) (the_amounts c.args.bounded.now.priced) (the_prices c.args.bounded.now.priced) c.args.bounded.now.priced.case.resources (resources_is c.args.bounded.now.standing.prices.case_bytes),
     )
-    (store_front (row_charge_in c.args.b.now c.args.q.now balance_row ∷ []) c.args.out.now (omega arith))
+    (store_front (row_charge_in (case_bytes c.args.bounded.now.priced) (certificate_bytes c.args.bounded.now.priced) balance_row ∷ []) c.args.out.now (omega arith))

@@ -11,12 +11,12 @@ pub loop-i-init : goal.loop-i-init
 unfolding sum_of upto
 loop-i-init c = search rules
 
-pub kw_sum-sum-requires : goal.kw_sum-sum-requires
+pub sum-sum-requires : goal.sum-sum-requires
 unfolding amounts_of
-kw_sum-sum-requires c =
-    rw (c.amounts_at-a.ensures, c.loop-i.invariant.1)
-    (energy_room c.args.q.now c.args.r c.requires.1 c.requires.0.counts.most_resources c.loop-i.i (omega arith))
+sum-sum-requires c =
+    rw (c.amounts-a.ensures, c.loop-i.invariant)
+    (energy_room c.args.certificate.now.bytes.now c.args.certificate.now.resources c.requires c.args.certificate.now.whole.counts.most_resources c.loop-i.i (omega arith))
 
 pub loop-i-preserved : goal.loop-i-preserved
 unfolding amounts_of
-loop-i-preserved c = (omega arith, c.kw_sum-sum.ensures ∙ rw (c.amounts_at-a.ensures, c.loop-i.invariant.1, sum-upto))
+loop-i-preserved c = c.sum-sum.ensures ∙ rw (c.amounts-a.ensures, c.loop-i.invariant, sum-upto)

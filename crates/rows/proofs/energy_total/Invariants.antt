@@ -1,5 +1,4 @@
 use mathlib.Core.Path.{◌≡◌}
-use Prim.Native.Nat.{◌-◌, ◌≤◌}
 use Rattle.arith.specs.Sums.{sum_of, upto}
 use Rattle.market.specs.UpperBounds.{energy}
 use Rattle.market.specs.Certificate.{certificate_of}
@@ -8,7 +7,4 @@ use Rattle.market.specs.Records.{kw}
 use Rattle.rows.proofs.energy_total.Given as goal
 
 abbrev pub invariant-loop-i : goal.invariant-loop-i
-invariant-loop-i l = (l.i ≤ l.r) × (l.sum ≡ kw (sum_of (λ j. kw_of (certificate_of l.q).amount j energy) (upto l.i)))
-
-abbrev pub decreases-loop-i : goal.decreases-loop-i
-decreases-loop-i l = l.r - l.i
+invariant-loop-i l = l.sum ≡ kw (sum_of (λ j. kw_of (certificate_of l.certificate.bytes.now).amount j energy) (upto l.i))

@@ -1,30 +1,30 @@
 use mathlib.Core.Path.{◌≡◌, sym, ◌∙◌}
 use mathlib.Core.List.{[]}
 use Rattle.market.specs.declared.Refusal.TheVariants.{RowBroken}
-use Rattle.market.specs.CaseFile.{case_of}
 use Rattle.market.specs.Rows.{flowgate_row}
-use Rattle.market.specs.Certificate.{certificate_of}
 use Rattle.market.specs.Outcome.{row_met}
 use Rattle.market.proofs.FirstFailing.{passes, fails, first_none}
 use Rattle.case_records.proofs.Places.{resources_is}
 use Rattle.prices.proofs.Known.{limit_room}
 use Rattle.rows.proofs.Tests.{flowgate_met}
 use Rattle.rows.proofs.flowgate_over.Goals as goal
-use Rattle.rows.proofs.flowgate_over.Goals.{After-watts_at_least}
+use Rattle.rows.proofs.flowgate_over.Goals.{After-at_least}
+use Rattle.certificate_records.specs.Reader.{certificate_in}
+use Rattle.prices.specs.PricedCase.{the_case}
 
 pub in_watts-most-requires : goal.in_watts-most-requires
-in_watts-most-requires c = rw c.flowgate_limit_at-limit.ensures (limit_room c.requires.standing.0.prices c.args.g c.requires.standing.1.0)
+in_watts-most-requires c = rw c.flowgate_limit-limit.ensures (limit_room c.args.bounded.now.standing.prices c.args.g c.requires.flowgate.0)
 
-told : (c : After-watts_at_least) →
-    c.watts_at_least.result ≡ row_met (case_of c.args.b.now) (certificate_of c.args.q.now) (flowgate_row c.args.g)
+told : (c : After-at_least) →
+    c.at_least.result ≡ row_met (the_case c.args.bounded.now.priced) (certificate_in c.args.bounded.now.priced.certificate) (flowgate_row c.args.g)
 told c =
-    c.watts_at_least.ensures
-    ∙ rw (c.in_watts-most.ensures, c.flowgate_limit_at-limit.ensures, c.flow-flows.ensures) (flowgate_met (case_of c.args.b.now) (certificate_of c.args.q.now) c.args.r c.args.g (resources_is c.requires.standing.0.prices.case_bytes))
+    c.at_least.ensures
+    ∙ rw (c.in_watts-most.ensures, c.flowgate_limit-limit.ensures, c.flow-flows.ensures) (flowgate_met (the_case c.args.bounded.now.priced) (certificate_in c.args.bounded.now.priced.certificate) c.args.bounded.now.priced.case.resources c.args.g (resources_is c.args.bounded.now.standing.prices.case_bytes))
 
-pub returns-then-watts_at_least : goal.returns-then-watts_at_least
-returns-then-watts_at_least c =
-    sym (passes (row_met (case_of c.args.b.now) (certificate_of c.args.q.now)) RowBroken c.args.row (flowgate_row c.args.g) [] (sym (told (goal.at.returns-then-watts_at_least c).After-watts_at_least) ∙ c.if-watts_at_least.true) ∙ first_none (row_met (case_of c.args.b.now) (certificate_of c.args.q.now)) RowBroken _)
+pub returns-then-at_least : goal.returns-then-at_least
+returns-then-at_least c =
+    sym (passes (row_met (the_case c.args.bounded.now.priced) (certificate_in c.args.bounded.now.priced.certificate)) RowBroken c.args.row (flowgate_row c.args.g) [] (sym (told (goal.at.returns-then-at_least c).After-at_least) ∙ c.if-at_least.true) ∙ first_none (row_met (the_case c.args.bounded.now.priced) (certificate_in c.args.bounded.now.priced.certificate)) RowBroken _)
 
 pub returns : goal.returns
 returns c =
-    sym (fails (row_met (case_of c.args.b.now) (certificate_of c.args.q.now)) RowBroken c.args.row (flowgate_row c.args.g) [] (sym (told (goal.at.returns c).After-watts_at_least) ∙ c.if-watts_at_least.false))
+    sym (fails (row_met (the_case c.args.bounded.now.priced) (certificate_in c.args.bounded.now.priced.certificate)) RowBroken c.args.row (flowgate_row c.args.g) [] (sym (told (goal.at.returns c).After-at_least) ∙ c.if-at_least.false))

@@ -1,23 +1,16 @@
-use mathlib.Core.Path.{◌≡◌}
-use Prim.Native.Nat.{◌+◌, ◌*◌}
-use Rattle.market.specs.Rows.{zone_row_count}
-use Rattle.rows.specs.Tests.{first_zone_row}
-use Rattle.market.specs.declared.First.TheVariants.{None, At}
+use Rattle.std.specs.Prelude.{None}
+use Rattle.std.proofs.Common.{◌≡◌}
 use Rattle.market.specs.declared.Refusal.TheVariants.{RowBroken}
-use Rattle.market.specs.CaseFile.{case_of}
-use Rattle.market.specs.Certificate.{certificate_of}
-use Rattle.market.specs.Outcome.{row_met}
 use Rattle.case_records.proofs.Places.{flowgates_is}
 use Rattle.rows.proofs.Known.{flowgate_broken, limit_broken}
+use Rattle.prices.specs.PricedCase.{the_case}
 use Rattle.rows.proofs.network_broken.Goals as goal
 
-pub returns-in_default : goal.returns-in_default
-returns-in_default c =
-    let at : c.flowgates_over-n.result ≡ At c.in_default.field-0 = cc in
-    flowgate_broken (row_met (case_of c.args.b.now) (certificate_of c.args.q.now)) RowBroken (case_of c.args.b.now) (first_zone_row + c.args.z * zone_row_count) c.flowgates_over-n.result _ at c.flowgates_over-n.ensures
+pub returns-in-Some : goal.returns-in-Some
+returns-in-Some c = flowgate_broken _ RowBroken (the_case c.args.kept.now.bounded.priced) _ c.flowgates_over.result c.flowgates_over.ensures c.in-Some.row cc
 
 pub returns : goal.returns
 returns c =
-    let none : c.flowgates_over-n.result ≡ None = cc in
-    limit_broken (row_met (case_of c.args.b.now) (certificate_of c.args.q.now)) RowBroken (case_of c.args.b.now) (first_zone_row + c.args.z * zone_row_count) c.flowgates_over-n.result c.resources_outside.result none c.flowgates_over-n.ensures
-    (rw (flowgates_is c.requires.0.prices.case_bytes) at c.resources_outside.ensures)
+    let none : c.flowgates_over.result ≡ None = cc in
+    let rest = rw (flowgates_is c.args.kept.now.bounded.standing.prices.case_bytes) at c.resources_outside.ensures in
+    limit_broken _ RowBroken (the_case c.args.kept.now.bounded.priced) _ c.flowgates_over.result c.flowgates_over.ensures c.resources_outside.result none rest
