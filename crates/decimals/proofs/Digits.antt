@@ -2,14 +2,17 @@
 use mathlib.Core.Path.{◌≡◌, refl, sym, ◌∙◌, ap}
 use mathlib.Core.Bool.{Bool, true, false}
 use mathlib.Core.List.{List, [], ◌∷◌, ◌++◌, append_assoc, append-nil}
-use Prim.Native.Nat.{ℕ, zero, suc, ◌+◌, ◌-◌, ◌/◌, ◌%◌, ◌^◌, ◌<◌, ◌≤◌}
+use Prim.Native.Nat.{ℕ, zero, suc, ◌+◌, ◌*◌, ◌/◌, ◌%◌, ◌^◌, ◌<◌, ◌≤◌}
 use native.Mathlib.Nat.{pow-suc}
 use native.Mathlib.Omega.{arith}
+use native.Mathlib.Numerals.{add-one}
 use lib.Dec.{ltb}
 use lib.IntN.{ℤ, pos, negsuc, nat_abs}
 use lib.Signed.{lt_z}
 use lib.ListN.{length, drop, set, length-append, length-set}
 use lib.Seq.{drop-cons, drop-set-lt, get_or-set_same}
+use Rattle.std.specs.Prelude.{Option, Some, None, IfSome, IfNone}
+use Rattle.std.specs.Option.{unwrap_or}
 use borrow.Author.Tests.{lt-ltb, le-ltb, ltb-true}
 use Rattle.market.specs.Program.{digits_on, decimal}
 use Rattle.decimals.specs.Digits.{digit_count, last_digits}
@@ -33,26 +36,18 @@ count_most (suc fuel) n = go (ltb n 10) (count_most fuel (n / 10))
     go true h = omega arith
     go false h = omega (arith, h)
 
--- a number of more than one digit, and the number without its last
-shorter : (k rest : ℕ) → 10 ≤ rest → rest < 10 ^ suc k → (0 < k) × (rest / 10 < 10 ^ k)
-shorter zero rest h l = absurd (omega arith)
-shorter (suc k) rest h l = (omega arith, omega (arith, pow-suc 10 (suc k)))
+-- one more than the logarithm says, and of 0, which has none, one
+count_above : (fuel k n : ℕ) → k < fuel → 10 ^ k ≤ n → n < 10 * 10 ^ k → suc k ≡ digit_count fuel n
+count_above zero k n f l h = absurd (omega arith)
+count_above (suc fuel) zero n f l h = sym (count_last fuel n (omega arith))
+count_above (suc fuel) (suc k) n f l h =
+    let p = pow-suc 10 k in
+    ap suc (count_above fuel k (n / 10) (omega arith) (omega (arith, p)) (omega (arith, p))) ∙ sym (count_more fuel n (omega (arith, p)))
 
--- `count` digits are counted of n, and what is left is `rest`
-abbrev pub Counted : ℕ → ℕ → ℕ → Type 0
-Counted n count rest = (1 ≤ count) × (count ≤ most_digits) × (rest < 10 ^ suc (most_digits - count)) × (count + digit_count (suc (most_digits - count)) rest ≡ suc (digit_count most_digits n))
-
-pub counting : (n : ℕ) → n < 18446744073709551616 → Counted n 1 n
-counting n h = (omega arith, omega arith, omega arith, omega arith)
-
-pub counted_more : (n count rest : ℕ) → Counted n count rest → 10 ≤ rest → Counted n (count + 1) (rest / 10)
-counted_more n count rest c h =
-    let s = shorter (most_digits - count) rest h c.2 in
-    let e : most_digits - count ≡ suc (most_digits - (count + 1)) = omega (arith, s.0) in
-    (omega arith, omega (arith, s.0), rw (← e) s.1, omega (arith, c.3, count_more (most_digits - count) rest h, ap (λ (k : ℕ). digit_count k (rest / 10)) e))
-
-pub counted_all : (n count rest : ℕ) → Counted n count rest → rest < 10 → count ≡ digit_count most_digits n
-counted_all n count rest c h = omega (arith, c.3, count_last (most_digits - count) rest h)
+pub count_by_log : (n : ℕ) (log : Option ℕ) → IfNone log (n ≡ 0) → IfSome log (λ k. 10 ^ k ≤ n) → IfSome log (λ k. n < 10 * 10 ^ k) → IfSome log (λ k. k < most_digits)
+    → unwrap_or log 0 + 1 ≡ digit_count most_digits n
+count_by_log n None z l h f = rw z (sym (count_last 19 0 (omega arith)))
+count_by_log n (Some k) z l h f = rw add-one (count_above most_digits k n f l h)
 
 -- ---- the digits
 pub last_length : (k n : ℕ) → length (last_digits k n) ≡ k

@@ -6,7 +6,7 @@ use native.Mathlib.Omega.{arith}
 use native.Mathlib.Numerals.{add-one}
 use lib.IntN.{ℤ, pos}
 use lib.ListN.{length, take, drop, set, get_or, length-append}
-use lib.Seq.{take-suc, length-take-le}
+use lib.Seq.{take-suc}
 use borrow.Rule.Slice.PartMut.{put_mid}
 use Rattle.arith.specs.Sums.{across}
 use Rattle.arith.proofs.Lists.{across-append}
@@ -16,10 +16,10 @@ use Rattle.decimals.specs.Written.{Wrote, most_figures}
 use Rattle.decimals.proofs.Digits.{decimal_most}
 
 -- t behind p, in the part that begins there
-pub wrote_on : (p t old mid last : List ℕ) (at n : ℕ) → length p ≤ length old → Wrote p old mid at
+pub wrote_on : (p t old : List ℕ) {mid last : List ℕ} {at n : ℕ} → length p ≤ length old → Wrote p old mid at
     → Wrote t (take (length mid - at) (drop at mid)) last n
     → Wrote (p ++ t) old (put_mid at (length mid - at) mid last) (at + n)
-wrote_on p t old mid last at n fit a b =
+wrote_on p t old {mid} {last} {at} {n} fit a b =
     (omega (arith, length-append p t, a.0, b.0), rw (length-append p t) (write_on p t old mid last (length p) (length t) at refl a.0 fit a.1 b.1))
 
 -- one byte behind p
@@ -31,13 +31,6 @@ byte_on p old mid v at fit a =
 -- the first byte
 pub byte_first : (old : List ℕ) (v : ℕ) → 1 ≤ length old → Wrote (v ∷ []) old (set old 0 v) 1
 byte_first old v fit = (refl, store_front (v ∷ []) old fit)
-
--- the bytes of a word, one after the other
-pub word_more : (w old mid : List ℕ) (i : ℕ) → i < length w → length w ≤ length old → mid ≡ take i w ++ drop i old
-    → set mid i (get_or w i 0) ≡ take (i + 1) w ++ drop (i + 1) old
-word_more w old mid i l fit e =
-    let t : take (i + 1) w ≡ take i w ++ (get_or w i 0 ∷ []) = rw (add-one i) (take-suc w i 0 l) in
-    rw t (store_on (take i w) old mid (get_or w i 0) i (length-take-le i w (omega arith)) (omega arith) e)
 
 -- ---- figures, a space before each
 abbrev pub figure : ℤ → List ℕ
@@ -60,10 +53,7 @@ spaced_are (v ∷ vs) = rw (spaced_are vs, append_assoc)
 pub spaced_most : (vs : List ℤ) → length (spaced vs) ≤ most_figures (length vs)
 spaced_most vs = rw (spaced_are vs) (omega (arith, length-append (across figure vs) (10 ∷ []), figures_most vs))
 
--- those of the first i numbers, and one more
-pub front_most : (vs : List ℤ) (i : ℕ) → i ≤ length vs → length (across figure (take i vs)) ≤ 22 * i
-front_most vs i l = omega (arith, figures_most (take i vs), length-take-le i vs l)
-
+-- those of the first i numbers and one more
 pub figure_more : (vs : List ℤ) (i : ℕ) → i < length vs → across figure (take (i + 1) vs) ≡ across figure (take i vs) ++ figure (get_or vs i (pos 0))
 unfolding across
 figure_more vs i l = rw (add-one i, take-suc vs i (pos 0) l, across-append figure (take i vs) (get_or vs i (pos 0) ∷ []), append-nil (figure (get_or vs i (pos 0))))

@@ -2,7 +2,7 @@
 // which has to be long enough, and answers how many bytes that is. What stands beyond them stays as it was.
 #![tactic(auto)]
 
-ghost use Rattle.std.specs.Prelude.{◌≡◌, [], ◌∷◌, ◌++◌, ◌+◌, ◌≤◌, nat_abs, length, drop};
+ghost use Rattle.std.specs.Prelude.{◌≡◌, [], ◌∷◌, ◌++◌, ◌+◌, ◌≤◌, length, drop};
 ghost use Rattle.market.specs.Program.{digits_on, decimal, spaced, line};
 ghost use Rattle.decimals.specs.Digits.{digit_count, last_digits};
 ghost use Rattle.decimals.specs.Written.{Wrote, most_digits, most_decimal, most_figures};
@@ -19,13 +19,7 @@ pub const MOST_FIGURE: usize = MOST_DECIMAL + 1;
 fn digit_count(n: u64) -> usize
     ensures { result ≡ digit_count most_digits n }
 {
-    let mut count: usize = 1;
-    let mut rest = n;
-    while rest >= 10 {
-        rest = rest / 10;
-        count += 1;
-    }
-    count
+    n.checked_ilog10().unwrap_or(0) as usize + 1
 }
 
 // The last `count` digits of n, from the last to the first.
@@ -33,12 +27,10 @@ fn write_digits(n: u64, count: usize, out: &mut [u8])
     requires { count ≤ length out.old }
     ensures { out.new ≡ last_digits count n ++ drop count out.old }
 {
-    let mut left = count;
     let mut rest = n;
-    while left > 0 {
-        left -= 1;
-        out[left] = 48 + (rest % 10) as u8;
-        rest = rest / 10;
+    for i in (0..count).rev() {
+        out[i] = b'0' + (rest % 10) as u8;
+        rest /= 10;
     }
 }
 
@@ -51,22 +43,11 @@ fn write_magnitude(n: u64, out: &mut [u8]) -> usize
     count
 }
 
-// The number without its sign; the least number has one too.
-fn magnitude(v: i64) -> u64
-    ensures { result ≡ nat_abs v }
-{
-    if v < 0 {
-        let w = 0 - (v + 1);
-        return w as u64 + 1;
-    }
-    v as u64
-}
-
 fn write_decimal(v: i64, out: &mut [u8]) -> usize
     requires { most_decimal ≤ length out.old }
     ensures { Wrote (decimal v) out.old out.new result }
 {
-    let n = magnitude(v);
+    let n = v.unsigned_abs();
     if v < 0 {
         out[0] = b'-';
         let count = write_magnitude(n, &mut out[1..]);
@@ -81,12 +62,8 @@ fn write_word(word: &[u8], out: &mut [u8]) -> usize
     requires { length word.now ≤ length out.old }
     ensures { Wrote word.now out.old out.new result }
 {
-    let mut i: usize = 0;
-    while i < word.len() {
-        out[i] = word[i];
-        i += 1;
-    }
-    i
+    out[..word.len()].copy_from_slice(word);
+    word.len()
 }
 
 // A space, then a number.
@@ -104,13 +81,10 @@ fn write_figures(vs: &[i64], out: &mut [u8]) -> usize
     requires { most_figures (length vs.now) ≤ length out.old }
     ensures { Wrote (spaced vs.now) out.old out.new result }
 {
-    let mut i: usize = 0;
     let mut at: usize = 0;
-    while i < vs.len() {
-        let v = vs[i];
-        let count = write_figure(v, &mut out[at..]);
+    for v in vs {
+        let count = write_figure(*v, &mut out[at..]);
         at += count;
-        i += 1;
     }
     out[at] = b'\n';
     at + 1

@@ -1,8 +1,9 @@
 -- What a C host receives from reading a file's numbers and from writing a file of numbers, and that the one undoes the
 -- other (demand 2). Both of a kind of file: its reading and its writing, each as the answer and the lent buffer afterwards.
+use Rattle.market.specs.declared.Refusal.{Refusal}
+use Rattle.std.specs.Prelude.{Result}
 use Rattle.std.specs.Prelude.{List, ◌++◌, ◌≡◌, ℕ, ◌≤◌, ℤ, length, take, drop}
 use Rattle.market.specs.declared.Count.{Count}
-use Rattle.market.specs.declared.Transfer.{Transfer}
 use Rattle.market.specs.Refusals.{count_of}
 
 -- success, with so many elements written
@@ -10,8 +11,8 @@ abbrev pub counting : ℕ → Count
 counting n = record { refusal = 0; count = n }
 
 module _
-    (reading : List ℕ → ℕ → Transfer) (readBuffer : List ℕ → List ℤ → List ℤ)
-    (writing : List ℤ → ℕ → Transfer) (writeBuffer : List ℤ → List ℕ → List ℕ)
+    (reading : List ℕ → ℕ → (Result ℕ Refusal)) (readBuffer : List ℕ → List ℤ → List ℤ)
+    (writing : List ℤ → ℕ → (Result ℕ Refusal)) (writeBuffer : List ℤ → List ℕ → List ℕ)
   where
     -- of file bytes b, the buffer's numbers before and after, and the result
     pub record NumbersRead (b : List ℕ) (before after : List ℤ) (result : Count) : Type 0 where

@@ -8,17 +8,16 @@ ghost use Rattle.market.specs.Numbers.{read_case, read_case_buffer, read_certifi
 ghost use Rattle.nostwier.specs.Reported.{Reported};
 ghost use Rattle.nostwier.specs.Transferred.{NumbersRead, NumbersWritten};
 
-use market::{Answer, CaseAnswer, CheckResult, Count, Delivery, Outcome, Transfer};
+use market::{Answer, CheckResult, Count};
 
 // 0 for a valid case, else the number of its refusal.
 #[unsafe(no_mangle)]
 pub extern "C" fn nostwier_check_case(c: &[u8]) -> u32
     ensures { result ≡ case_number_of (case_answer c.now) }
 {
-    let answer = case_check::check_case(c);
-    match answer {
-        CaseAnswer::Valid => 0,
-        CaseAnswer::Refused(why) => why.number(),
+    match case_check::check_case(c) {
+        Ok(()) => 0,
+        Err(why) => why.number(),
     }
 }
 
@@ -27,48 +26,17 @@ pub extern "C" fn nostwier_check_case(c: &[u8]) -> u32
 pub extern "C" fn nostwier_check_certificate(c: &[u8], q: &[u8]) -> CheckResult
     ensures { Reported c.now q.now result }
 {
-    let answer = outcomes::check_certificate(c, q);
-    match answer {
-        Outcome::Accepted(v) => CheckResult {
-            refusal: 0,
-            place: 0,
-            cost: v.cost.0,
-            bound: v.bound.0,
-            gap: v.gap.0,
-        },
-        Outcome::Refused(why) => CheckResult {
-            refusal: why.number(),
-            place: why.place(),
-            cost: 0,
-            bound: 0,
-            gap: 0,
-        },
-    }
+    outcomes::check_certificate(c, q).into()
 }
 
 // ---- numbers into a lent buffer
-
-fn answered(answer: Delivery) -> Answer
-    ensures { result ≡ answer_of answer }
-{
-    match answer {
-        Delivery::Delivered => Answer {
-            refusal: 0,
-            place: 0,
-        },
-        Delivery::Refused(why) => Answer {
-            refusal: why.number(),
-            place: why.place(),
-        },
-    }
-}
 
 // R LMPs and four prices a zone, from the buffer's start on; the rest of it, and all of it on a refusal, stays as it was.
 #[unsafe(no_mangle)]
 pub extern "C" fn nostwier_prices(c: &[u8], q: &[u8], out: &mut [i64]) -> Answer
     ensures { (result ≡ answer_of (price_answer c.now q.now (length out.old))) × (out.new ≡ price_buffer c.now q.now out.old) }
 {
-    answered(outcomes::deliver_prices(c, q, out))
+    outcomes::deliver_prices(c, q, out).into()
 }
 
 // 21 + 4Z + F + 19R charges, from the buffer's start on; the rest of it, and all of it on a refusal, stays as it was.
@@ -76,32 +44,17 @@ pub extern "C" fn nostwier_prices(c: &[u8], q: &[u8], out: &mut [i64]) -> Answer
 pub extern "C" fn nostwier_charges(c: &[u8], q: &[u8], out: &mut [i64]) -> Answer
     ensures { (result ≡ answer_of (charge_answer c.now q.now (length out.old))) × (out.new ≡ charge_buffer c.now q.now out.old) }
 {
-    answered(outcomes::deliver_charges(c, q, out))
+    outcomes::deliver_charges(c, q, out).into()
 }
 
 // ---- numbers out of files, and into files
-
-fn counted(answer: Transfer) -> Count
-    ensures { result ≡ count_of answer }
-{
-    match answer {
-        Transfer::Written(n) => Count {
-            refusal: 0,
-            count: n,
-        },
-        Transfer::Refused(why) => Count {
-            refusal: why.number(),
-            count: 0,
-        },
-    }
-}
 
 // A case's numbers, every field but length and version in order.
 #[unsafe(no_mangle)]
 pub extern "C" fn nostwier_read_case(c: &[u8], out: &mut [i64]) -> Count
     ensures { NumbersRead read_case read_case_buffer write_case write_case_buffer c.now out.old out.new result }
 {
-    counted(read_numbers::read_case(c, out))
+    read_numbers::read_case(c, out).into()
 }
 
 // A certificate's numbers.
@@ -109,7 +62,7 @@ pub extern "C" fn nostwier_read_case(c: &[u8], out: &mut [i64]) -> Count
 pub extern "C" fn nostwier_read_certificate(q: &[u8], out: &mut [i64]) -> Count
     ensures { NumbersRead read_certificate read_certificate_buffer write_certificate write_certificate_buffer q.now out.old out.new result }
 {
-    counted(read_numbers::read_certificate(q, out))
+    read_numbers::read_certificate(q, out).into()
 }
 
 // The case whose numbers are v.
@@ -117,7 +70,7 @@ pub extern "C" fn nostwier_read_certificate(q: &[u8], out: &mut [i64]) -> Count
 pub extern "C" fn nostwier_write_case(v: &[i64], out: &mut [u8]) -> Count
     ensures { NumbersWritten read_case read_case_buffer write_case write_case_buffer v.now out.old out.new result }
 {
-    counted(write_numbers::write_case(v, out))
+    write_numbers::write_case(v, out).into()
 }
 
 // The certificate whose numbers are v.
@@ -125,5 +78,5 @@ pub extern "C" fn nostwier_write_case(v: &[i64], out: &mut [u8]) -> Count
 pub extern "C" fn nostwier_write_certificate(v: &[i64], out: &mut [u8]) -> Count
     ensures { NumbersWritten read_certificate read_certificate_buffer write_certificate write_certificate_buffer v.now out.old out.new result }
 {
-    counted(write_numbers::write_certificate(v, out))
+    write_numbers::write_certificate(v, out).into()
 }

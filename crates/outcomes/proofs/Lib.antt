@@ -1,2 +1,3 @@
+pub mod Files
 pub mod Passing
 pub mod Lent

@@ -2,40 +2,53 @@
 // (01, 'How each operation refuses').
 #![tactic(auto)]
 
-ghost use Rattle.std.specs.Prelude.{◌≡◌, ◌≤◌, length};
+ghost use Rattle.std.specs.Prelude.{◌≡◌, ◌≤◌, length, IfOk};
 ghost use Rattle.market.specs.CaseFile.{case_of};
 ghost use Rattle.market.specs.Certificate.{certificate_of};
 ghost use Rattle.market.specs.Records.{counts_in};
 ghost use Rattle.market.specs.Refusals.{first_of};
-ghost use Rattle.market.specs.Outcome.{grounds, valuation, price_answer, price_buffer, charge_answer, charge_buffer};
-ghost use Rattle.case_check.specs.Stages.{stage_of};
+ghost use Rattle.market.specs.Outcome.{grounds, valuation, room, price_answer, price_buffer, charge_answer, charge_buffer};
+ghost use Rattle.market.specs.Refusals.{answered};
 ghost use Rattle.capabilities.specs.Kept.{most_numbers, Kept};
 ghost use Rattle.quantities.specs.Filing.{Decided};
 ghost use Rattle.prices.specs.Standing.{Standing};
-ghost use Rattle.outcomes.specs.Checked.{outcome_after, AcceptedWith, Checked};
+ghost use Rattle.outcomes.specs.Checked.{Checked};
+ghost use Rattle.prices.specs.PricedCase.{case_bytes, certificate_bytes};
 
-use capabilities::MOST_NUMBERS;
-use case_check::Stage;
+use capabilities::{KeptCase, MOST_NUMBERS};
 use market::{
-    Counts, Delivery, First, Grains, Outcome, RESOURCE_CHARGES, Refusal, SYSTEM_CHARGES, Valuation,
-    ZONE_PRICES, ZONE_ROWS,
+    Counts, RESOURCE_CHARGES, Refusal, SYSTEM_CHARGES, Valuation, ZONE_PRICES, ZONE_ROWS,
 };
+use prices::{BoundedCase, PricedCase};
+
+// A case and a certificate of these counts that are past 13, with what is kept of the case's resources.
+fn kept_case<'a>(b: &'a [u8], q: &'a [u8], n: Counts, kept: &'a [i32]) -> KeptCase<'a>
+    requires { Standing b.now q.now n.resources n.zones n.flowgates × Kept (case_of b.now) n.resources kept.now }
+    ensures case { case_bytes result.bounded.priced ≡ b.now }
+    ensures certificate { certificate_bytes result.bounded.priced ≡ q.now }
+    ensures resources { result.bounded.priced.case.resources ≡ n.resources }
+    ensures zones { result.bounded.priced.case.zones ≡ n.zones }
+    ensures flowgates { result.bounded.priced.case.flowgates ≡ n.flowgates }
+{
+    let priced = PricedCase::new(b, q, n.resources, n.zones, n.flowgates);
+    KeptCase::new(BoundedCase::new(priced), kept)
+}
 
 // 1 to 14: the counts of a case and a certificate that have passed them, or the first ground that holds. Where they pass, what is
 // decided of each resource is left in `kept`.
-fn rows_stage(b: &[u8], q: &[u8], kept: &mut [i32]) -> Stage
+fn rows_stage(b: &[u8], q: &[u8], kept: &mut [i32]) -> Result<Counts, Refusal>
     requires { most_numbers ≤ length kept.old }
-    ensures { (result ≡ stage_of (counts_in (case_of b.now)) (first_of (grounds b.now q.now))) × Decided b.now result kept.new }
+    ensures { (result ≡ answered (counts_in (case_of b.now)) (first_of (grounds b.now q.now))) × Decided b.now result kept.new }
 {
+    // a stage's answer is taken apart by let else, the refusal returned (01, 'Where each form belongs')
     let earlier = quantities::bounds_stage(b, q, kept);
-    let Stage::Passed(n) = earlier else {
+    let Ok(n) = earlier else {
         return earlier;
     };
-    let found = rows::first_broken(b, q, n.resources, n.zones, n.flowgates, kept);
-    let First::At(row) = found else {
-        return Stage::Passed(n);
-    };
-    Stage::Refused(Refusal::RowBroken(row))
+    if let Some(row) = rows::first_broken(&kept_case(b, q, n, kept)) {
+        return Err(Refusal::RowBroken(row));
+    }
+    Ok(n)
 }
 
 // Cost, bound and gap of a certificate that stands.
@@ -43,89 +56,56 @@ fn valued(b: &[u8], q: &[u8], n: Counts, kept: &[i32]) -> Valuation
     requires { Standing b.now q.now n.resources n.zones n.flowgates × Kept (case_of b.now) n.resources kept.now }
     ensures { result ≡ valuation (case_of b.now) (certificate_of q.now) }
 {
-    let resources = valuations::resources_value(b, q, n.resources, n.zones, n.flowgates, kept);
-    let cost = costs::cost(b, q, n.resources, n.zones, n.flowgates, resources.worth);
-    let bound = bounds::bound(b, q, n.resources, n.zones, n.flowgates, resources.least);
-    let gap = units::grains_difference(cost, bound);
+    let kept = kept_case(b, q, n, kept);
+    let resources = valuations::resources_value(&kept);
+    let cost = costs::cost(&kept.bounded, resources.worth);
+    let bound = bounds::bound(&kept.bounded, resources.least);
+    let gap = units::difference(cost, bound);
     Valuation { cost, bound, gap }
 }
 
-// The answer after 1 to 14: accepted with these values, or refused.
-fn outcome_after(stage: Stage, values: Valuation) -> Outcome
-    ensures { result ≡ outcome_after stage values }
-{
-    match stage {
-        Stage::Passed(_) => Outcome::Accepted(values),
-        Stage::Refused(why) => Outcome::Refused(why),
-    }
-}
-
 // Checks a certificate against its case. What is refused has no values.
-pub fn check_certificate(b: &[u8], q: &[u8]) -> Outcome
+pub fn check_certificate(b: &[u8], q: &[u8]) -> Result<Valuation, Refusal>
     ensures { Checked b.now q.now result }
 {
     let mut kept = [0i32; MOST_NUMBERS];
-    let stage = rows_stage(b, q, &mut kept);
-    let Stage::Passed(n) = stage else {
-        let none = Valuation {
-            cost: Grains(0),
-            bound: Grains(0),
-            gap: Grains(0),
-        };
-        return outcome_after(stage, none);
-    };
-    let values = valued(b, q, n, &kept);
-    outcome_after(stage, values)
+    let n = rows_stage(b, q, &mut kept)?;
+    Ok(valued(b, q, n, &kept))
 }
 
-// 15, then the LMPs and zone prices of an accepted certificate.
-fn hand_over_prices(b: &[u8], q: &[u8], n: Counts, out: &mut [i64]) -> Delivery
-    requires { AcceptedWith b.now q.now n }
-    ensures { (result ≡ price_answer b.now q.now (length out.old)) × (out.new ≡ price_buffer b.now q.now out.old) }
+// 15: a lent buffer of n numbers, where more are needed.
+fn room(needed: usize, n: usize) -> Result<(), Refusal>
+    ensures answer { result ≡ answered tt (room needed n) }
+    ensures enough { IfOk result (λ done. needed ≤ n) }
 {
-    if out.len() < n.resources + ZONE_PRICES * n.zones {
-        return Delivery::Refused(Refusal::BufferShort);
+    if n < needed {
+        return Err(Refusal::BufferShort);
     }
-    price_list::write_prices(b, q, n.resources, n.zones, n.flowgates, out);
-    Delivery::Delivered
+    Ok(())
 }
 
 // Writes the LMPs and zone prices: 1 to 14, then 15.
-pub fn deliver_prices(b: &[u8], q: &[u8], out: &mut [i64]) -> Delivery
+pub fn deliver_prices(b: &[u8], q: &[u8], out: &mut [i64]) -> Result<(), Refusal>
     ensures { (result ≡ price_answer b.now q.now (length out.old)) × (out.new ≡ price_buffer b.now q.now out.old) }
 {
     let mut kept = [0i32; MOST_NUMBERS];
-    let stage = rows_stage(b, q, &mut kept);
-    let Stage::Refused(why) = stage else {
-        let n = case_check::counts_at(b);
-        return hand_over_prices(b, q, n, out);
-    };
-    Delivery::Refused(why)
+    let n = rows_stage(b, q, &mut kept)?;
+    room(n.resources + ZONE_PRICES * n.zones, out.len())?;
+    price_list::write_prices(&kept_case(b, q, n, &kept).bounded, out);
+    Ok(())
 }
 
-// 15, then the charges of an accepted certificate, in charge order.
-fn hand_over_charges(b: &[u8], q: &[u8], n: Counts, kept: &[i32], out: &mut [i64]) -> Delivery
-    requires { AcceptedWith b.now q.now n × Kept (case_of b.now) n.resources kept.now }
-    ensures { (result ≡ charge_answer b.now q.now (length out.old)) × (out.new ≡ charge_buffer b.now q.now out.old) }
-{
-    if out.len()
-        < SYSTEM_CHARGES + ZONE_ROWS * n.zones + n.flowgates + RESOURCE_CHARGES * n.resources
-    {
-        return Delivery::Refused(Refusal::BufferShort);
-    }
-    charges::write_charges(b, q, n.resources, n.zones, n.flowgates, kept, out);
-    Delivery::Delivered
-}
-
-// Writes the charges: 1 to 14, then 15.
-pub fn deliver_charges(b: &[u8], q: &[u8], out: &mut [i64]) -> Delivery
+// Writes the charges, in charge order: 1 to 14, then 15.
+pub fn deliver_charges(b: &[u8], q: &[u8], out: &mut [i64]) -> Result<(), Refusal>
     ensures { (result ≡ charge_answer b.now q.now (length out.old)) × (out.new ≡ charge_buffer b.now q.now out.old) }
 {
     let mut kept = [0i32; MOST_NUMBERS];
-    let stage = rows_stage(b, q, &mut kept);
-    let Stage::Refused(why) = stage else {
-        let n = case_check::counts_at(b);
-        return hand_over_charges(b, q, n, &kept, out);
-    };
-    Delivery::Refused(why)
+    let n = rows_stage(b, q, &mut kept)?;
+    let own = RESOURCE_CHARGES * n.resources;
+    room(
+        SYSTEM_CHARGES + ZONE_ROWS * n.zones + n.flowgates + own,
+        out.len(),
+    )?;
+    charges::write_charges(&kept_case(b, q, n, &kept), out);
+    Ok(())
 }

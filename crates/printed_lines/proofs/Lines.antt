@@ -1,4 +1,7 @@
 -- The program's lines: of records by value they are market's, and none is longer than its room.
+use Rattle.market.specs.declared.PerService.{PerService}
+use Rattle.market.specs.declared.Kw.{Kw}
+use Rattle.std.specs.Prelude.{Ok}
 use mathlib.Core.Path.{◌≡◌, refl, sym, ◌∙◌, ap}
 use mathlib.Core.List.{List, [], ◌∷◌, ◌++◌, append_assoc}
 use Prim.Native.Nat.{ℕ, zero, suc, ◌*◌, ◌<◌, ◌≤◌}
@@ -7,12 +10,10 @@ use lib.IntN.{ℤ, pos}
 use lib.ListN.{length, length-append}
 use Rattle.arith.specs.Sums.{upto, across}
 use Rattle.arith.proofs.Lists.{length-upto}
-use Rattle.market.specs.declared.Amounts.{Amounts}
 use Rattle.market.specs.declared.Grains.{Grains}
 use Rattle.market.specs.declared.Millicents.{Millicents}
 use Rattle.market.specs.declared.Refusal.{Refusal}
 use Rattle.market.specs.declared.Valuation.{Valuation}
-use Rattle.market.specs.declared.Outcome.TheVariants.{Accepted}
 use Rattle.market.specs.Case.{Case}
 use Rattle.market.specs.CaseFile.{case_of}
 use Rattle.market.specs.CaseCheck.{most_resources, most_zones}
@@ -69,7 +70,7 @@ head_most v = omega (arith, length-append (value_line cost_word v.cost) (bound_a
 
 -- ---- resources and zones
 -- figures that are those of a record
-pub resource_text_is : (i : ℕ) (v : Availability) (a : Amounts) (p : Millicents) {n t e g c s o l : ℤ} → n ≡ pos (suc i) → t ≡ pos (on_line_figure v)
+pub resource_text_is : (i : ℕ) (v : Availability) (a : (PerService Kw)) (p : Millicents) {n t e g c s o l : ℤ} → n ≡ pos (suc i) → t ≡ pos (on_line_figure v)
     → e ≡ a.energy.0 → g ≡ a.regulation.0 → c ≡ a.contingency.0 → s ≡ a.on_line_short_term.0 → o ≡ a.off_line_short_term.0 → l ≡ p.0
     → line (decimal n) (t ∷ e ∷ g ∷ c ∷ s ∷ o ∷ l ∷ []) ≡ resource_text i v a p
 unfolding resource_text
@@ -82,7 +83,7 @@ unfolding zone_text
 zone_text_is z p en eg es em eh = rw (en, eg, es, em, eh)
 
 module _ (c : Case) (k : Certificate) where
-  pub resource_line_is : (i : ℕ) (v : Availability) (a : Amounts) (p : Millicents) → v ≡ availability_of (c.resource i) → a ≡ amounts_of k.amount i → p ≡ millicents (lmp_of c k.price i)
+  pub resource_line_is : (i : ℕ) (v : Availability) (a : (PerService Kw)) (p : Millicents) → v ≡ availability_of (c.resource i) → a ≡ amounts_of k.amount i → p ≡ millicents (lmp_of c k.price i)
       → resource_text i v a p ≡ resource_line c k i
   unfolding resource_text resource_line amounts_of
   resource_line_is i v a p ev ea ep = rw (ev, ea, ep)
@@ -121,7 +122,7 @@ module _ (c : Case) (k : Certificate) where
   unfolding schedule_lines
   schedule_is r z er ez = rw (er, ez)
 
-  pub accepted_lines : (v : Valuation) → head_lines v ++ schedule_lines c k ≡ report c k (Accepted v)
+  pub accepted_lines : (v : Valuation) → head_lines v ++ schedule_lines c k ≡ report c k (Ok v)
   unfolding report head_lines bound_and_gap schedule_lines
   accepted_lines v =
       let rest = across (resource_line c k) (upto c.resources) ++ across (zone_line k) (upto c.zones) in

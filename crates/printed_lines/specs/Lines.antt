@@ -1,6 +1,7 @@
 -- The program's lines, of records by value (market, specs/Program.antt has the same of a case and a certificate).
+use Rattle.market.specs.declared.PerService.{PerService}
+use Rattle.market.specs.declared.Kw.{Kw}
 use Rattle.std.specs.Prelude.{List, [], ◌∷◌, ◌++◌, ℕ, suc, ℤ, pos}
-use Rattle.market.specs.declared.Amounts.{Amounts}
 use Rattle.market.specs.declared.Availability.{Availability}
 use Rattle.market.specs.Availability.{on_line_figure}
 use Rattle.market.specs.declared.Grains.{Grains}
@@ -23,10 +24,10 @@ unfoldable pub head_lines : Valuation → List ℕ
 head_lines values = value_line cost_word values.cost ++ bound_and_gap values
 
 -- e g c s o
-abbrev pub amount_figures : Amounts → List ℤ
+abbrev pub amount_figures : (PerService Kw) → List ℤ
 amount_figures amounts = amounts.energy.0 ∷ amounts.regulation.0 ∷ amounts.contingency.0 ∷ amounts.on_line_short_term.0 ∷ amounts.off_line_short_term.0 ∷ []
 
-unfoldable pub resource_text : ℕ → Availability → Amounts → Millicents → List ℕ
+unfoldable pub resource_text : ℕ → Availability → (PerService Kw) → Millicents → List ℕ
 resource_text i availability amounts price = line (decimal (pos (suc i))) (pos (on_line_figure availability) ∷ (amount_figures amounts ++ (price.0 ∷ [])))
 
 unfoldable pub zone_text : ℕ → ZonePrices → List ℕ

@@ -2,9 +2,9 @@
 // lent buffer, which has to be long enough, and answers how many bytes that is. What stands beyond them stays as it was.
 #![tactic(auto)]
 
+ghost use Rattle.std.specs.Prelude.{Ok};
 ghost use Rattle.std.specs.Prelude.{◌*◌, ◌<◌, ◌≤◌, length};
 ghost use Rattle.arith.specs.Sums.{upto, across};
-ghost use Rattle.market.specs.declared.Outcome.TheVariants.{Accepted};
 ghost use Rattle.market.specs.CaseFile.{case_of};
 ghost use Rattle.market.specs.CaseCheck.{most_resources, most_zones};
 ghost use Rattle.market.specs.Certificate.{certificate_of};
@@ -13,9 +13,11 @@ ghost use Rattle.prices.specs.Standing.{PricesStand};
 ghost use Rattle.decimals.specs.Written.{Wrote};
 ghost use Rattle.printed_lines.specs.Lines.{value_line, bound_and_gap, head_lines, resource_text, zone_text, schedule_lines};
 ghost use Rattle.printed_lines.specs.Room.{most_value_line, most_bound_and_gap, most_head, most_schedule, most_resource_line, most_zone_line, most_refusal, most_text};
+ghost use Rattle.prices.specs.PricedCase.{the_case};
+ghost use Rattle.certificate_records.specs.Reader.{certificate_in};
 
 use market::{Amounts, Availability, Counts, Grains, Millicents, Refusal, Valuation};
-use prices::ZonePrices;
+use prices::{PricedCase, ZonePrices};
 
 // `refused N` or `refused N PLACE`.
 pub fn refusal_line(why: Refusal, out: &mut [u8]) -> usize
@@ -86,35 +88,25 @@ fn resource_text(
     decimals::write_numbered(number, &figures, out)
 }
 
-fn resource_line(
-    b: &[u8],
-    q: &[u8],
-    r: usize,
-    z: usize,
-    f: usize,
-    i: usize,
-    out: &mut [u8],
-) -> usize
-    requires { PricesStand b.now q.now r z f × ((i < r) × (most_resource_line ≤ length out.old)) }
-    ensures { Wrote (resource_line (case_of b.now) (certificate_of q.now) i) out.old out.new result }
+fn resource_line(priced: &PricedCase<'_>, i: usize, out: &mut [u8]) -> usize
+    requires { (i < priced.now.case.resources) × (most_resource_line ≤ length out.old) }
+    ensures { Wrote (resource_line (the_case priced.now) (certificate_in priced.now.certificate) i) out.old out.new result }
 {
-    let record = case_reader::resource_at(b, r, z, f, i);
+    let record = priced.case.resource(i);
     let availability = limits::availability_of(record);
-    let a = certificate_records::amounts_at(q, r, z, f, i);
-    let price = prices::lmp(b, q, r, z, f, i);
+    let a = priced.certificate.amounts(i);
+    let price = priced.lmp(i);
     resource_text(i, availability, a, price, out)
 }
 
-fn resource_lines(b: &[u8], q: &[u8], r: usize, z: usize, f: usize, out: &mut [u8]) -> usize
-    requires { PricesStand b.now q.now r z f × (most_resource_line * r ≤ length out.old) }
-    ensures { Wrote (across (resource_line (case_of b.now) (certificate_of q.now)) (upto r)) out.old out.new result }
+fn resource_lines(priced: &PricedCase<'_>, out: &mut [u8]) -> usize
+    requires { most_resource_line * priced.now.case.resources ≤ length out.old }
+    ensures { Wrote (across (resource_line (the_case priced.now) (certificate_in priced.now.certificate)) (upto priced.now.case.resources)) out.old out.new result }
 {
-    let mut i: usize = 0;
     let mut at: usize = 0;
-    while i < r {
-        let count = resource_line(b, q, r, z, f, i, &mut out[at..]);
+    for i in 0..priced.case.resources {
+        let count = resource_line(priced, i, &mut out[at..]);
         at += count;
-        i += 1;
     }
     at
 }
@@ -136,24 +128,22 @@ fn zone_text(zone: usize, p: ZonePrices, out: &mut [u8]) -> usize
     decimals::write_line(b"zone", &figures, out)
 }
 
-fn zone_line(b: &[u8], q: &[u8], r: usize, z: usize, f: usize, zone: usize, out: &mut [u8]) -> usize
-    requires { PricesStand b.now q.now r z f × ((zone < z) × (most_zone_line ≤ length out.old)) }
-    ensures { Wrote (zone_line (certificate_of q.now) zone) out.old out.new result }
+fn zone_line(priced: &PricedCase<'_>, zone: usize, out: &mut [u8]) -> usize
+    requires { (zone < priced.now.case.zones) × (most_zone_line ≤ length out.old) }
+    ensures { Wrote (zone_line (certificate_in priced.now.certificate) zone) out.old out.new result }
 {
-    let p = prices::zone_prices(b, q, r, z, f, zone);
+    let p = priced.zone_prices(zone);
     zone_text(zone, p, out)
 }
 
-fn zone_lines(b: &[u8], q: &[u8], r: usize, z: usize, f: usize, out: &mut [u8]) -> usize
-    requires { PricesStand b.now q.now r z f × (most_zone_line * z ≤ length out.old) }
-    ensures { Wrote (across (zone_line (certificate_of q.now)) (upto z)) out.old out.new result }
+fn zone_lines(priced: &PricedCase<'_>, out: &mut [u8]) -> usize
+    requires { most_zone_line * priced.now.case.zones ≤ length out.old }
+    ensures { Wrote (across (zone_line (certificate_in priced.now.certificate)) (upto priced.now.case.zones)) out.old out.new result }
 {
-    let mut zone: usize = 0;
     let mut at: usize = 0;
-    while zone < z {
-        let count = zone_line(b, q, r, z, f, zone, &mut out[at..]);
+    for zone in 0..priced.case.zones {
+        let count = zone_line(priced, zone, &mut out[at..]);
         at += count;
-        zone += 1;
     }
     at
 }
@@ -161,20 +151,20 @@ fn zone_lines(b: &[u8], q: &[u8], r: usize, z: usize, f: usize, out: &mut [u8]) 
 // ---- the whole
 
 // What follows cost, bound and gap.
-fn schedule_lines(b: &[u8], q: &[u8], r: usize, z: usize, f: usize, out: &mut [u8]) -> usize
-    requires { PricesStand b.now q.now r z f × (most_schedule ≤ length out.old) }
-    ensures { Wrote (schedule_lines (case_of b.now) (certificate_of q.now)) out.old out.new result }
+fn schedule_lines(priced: &PricedCase<'_>, out: &mut [u8]) -> usize
+    requires { most_schedule ≤ length out.old }
+    ensures { Wrote (schedule_lines (the_case priced.now) (certificate_in priced.now.certificate)) out.old out.new result }
 {
-    let at = resource_lines(b, q, r, z, f, out);
-    let count = zone_lines(b, q, r, z, f, &mut out[at..]);
+    let at = resource_lines(priced, out);
+    let count = zone_lines(priced, &mut out[at..]);
     at + count
 }
 
-pub fn accepted_text(b: &[u8], q: &[u8], n: Counts, v: Valuation, out: &mut [u8]) -> usize
-    requires { PricesStand b.now q.now n.resources n.zones n.flowgates × (most_text ≤ length out.old) }
-    ensures { Wrote (reportOf (case_of b.now) (certificate_of q.now) (Accepted v)) out.old out.new result }
+pub fn accepted_text(priced: &PricedCase<'_>, v: Valuation, out: &mut [u8]) -> usize
+    requires { most_text ≤ length out.old }
+    ensures { Wrote (reportOf (the_case priced.now) (certificate_in priced.now.certificate) (Ok v)) out.old out.new result }
 {
     let at = head_lines(v, out);
-    let count = schedule_lines(b, q, n.resources, n.zones, n.flowgates, &mut out[at..]);
+    let count = schedule_lines(priced, &mut out[at..]);
     at + count
 }

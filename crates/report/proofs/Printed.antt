@@ -1,5 +1,6 @@
 -- From the parts of the input to the program's text: which bytes are the case, what is printed, and that it never outgrows
 -- its room.
+use Rattle.std.specs.Prelude.{Result, Ok, Err}
 use mathlib.Core.Path.{◌≡◌, refl, sym, ◌∙◌, ap}
 use mathlib.Core.Bool.{Bool}
 use mathlib.Core.List.{List}
@@ -12,13 +13,11 @@ use borrow.Author.Tests.{le-leb, lt-leb}
 use Rattle.market.specs.declared.Refusal.{Refusal}
 use Rattle.market.specs.declared.Refusal.TheVariants.{InputLength}
 use Rattle.market.specs.declared.Valuation.{Valuation}
-use Rattle.market.specs.declared.Outcome.{Outcome}
-use Rattle.market.specs.declared.Outcome.TheVariants.{Accepted, Refused}
 use Rattle.market.specs.Bytes.{u32_at}
 use Rattle.market.specs.CaseFile.{case_of}
 use Rattle.market.specs.Certificate.{certificate_of}
 use Rattle.market.specs.Records.{counts_in}
-use Rattle.market.specs.Refusals.{Finding, clear, holds, unless, first_of, outcome_of}
+use Rattle.market.specs.Refusals.{Finding, clear, holds, unless, first_of, answered}
 use Rattle.market.specs.Outcome.{grounds, valuation, outcome}
 use Rattle.market.specs.Program.{report, refusal_line, printed, printed_of, case_in, certificate_in, most_input}
 use Rattle.prices.specs.Standing.{Standing}
@@ -31,29 +30,29 @@ use Rattle.printed_lines.proofs.Lines.{refusal_most, head_most, schedule_fits, a
 use Rattle.report.specs.Buffer.{report_count, report_buffer}
 
 -- ---- an accepted certificate stands
-clear_of : (w v : Valuation) (f : Finding) → outcome_of w f ≡ Accepted v → f ≡ clear
+clear_of : (w v : Valuation) (f : Finding) → answered w f ≡ Ok v → f ≡ clear
 clear_of w v clear e = refl
 clear_of w v (holds r) e = absurd (let z : ◌≡◌ {A = ℕ} 0 1 = cc in omega arith)
 
-pub accepted_stands : (b q : List ℕ) (v : Valuation) → outcome b q ≡ Accepted v → Standing b q (counts_in (case_of b)).resources (counts_in (case_of b)).zones (counts_in (case_of b)).flowgates
+pub accepted_stands : (b q : List ℕ) (v : Valuation) → outcome b q ≡ Ok v → Standing b q (counts_in (case_of b)).resources (counts_in (case_of b)).zones (counts_in (case_of b)).flowgates
 unfolding outcome
 accepted_stands b q v e =
     all_standing b q (counts_in (case_of b)) (record { none_holds = clear_of (valuation (case_of b) (certificate_of q)) v (first_of (grounds b q)) e; counts = refl })
 
 -- ---- no text is longer than the room
-accepted_most : (b q : List ℕ) (v : Valuation) → outcome b q ≡ Accepted v → length (report (case_of b) (certificate_of q) (Accepted v)) ≤ most_text
+accepted_most : (b q : List ℕ) (v : Valuation) → outcome b q ≡ Ok v → length (report (case_of b) (certificate_of q) (Ok v)) ≤ most_text
 accepted_most b q v e =
     let k = certificate_of q in
     rw (← (accepted_lines (case_of b) k v))
     (omega (arith, length-append (head_lines v) (schedule_lines (case_of b) k), head_most v, schedule_fits b k (accepted_stands b q v e).prices.case_bytes))
 
-report_most : (b q : List ℕ) (o : Outcome) → outcome b q ≡ o → length (report (case_of b) (certificate_of q) o) ≤ most_text
+report_most : (b q : List ℕ) (o : (Result Valuation Refusal)) → outcome b q ≡ o → length (report (case_of b) (certificate_of q) o) ≤ most_text
 unfolding report
-report_most b q (Refused r) e = omega (arith, refusal_most r)
-report_most b q (Accepted v) e = accepted_most b q v e
+report_most b q (Err r) e = omega (arith, refusal_most r)
+report_most b q (Ok v) e = accepted_most b q v e
 
 -- the text of a refusal
-pub refused_text : (b q : List ℕ) (w : Refusal) → outcome b q ≡ Refused w → refusal_line w ≡ report (case_of b) (certificate_of q) (outcome b q)
+pub refused_text : (b q : List ℕ) (w : Refusal) → outcome b q ≡ Err w → refusal_line w ≡ report (case_of b) (certificate_of q) (outcome b q)
 unfolding report
 refused_text b q w e = rw e
 

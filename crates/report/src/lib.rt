@@ -13,7 +13,8 @@ ghost use Rattle.printed_lines.specs.Room.{most_text};
 ghost use Rattle.report.specs.Buffer.{report_count, report_buffer};
 
 use decimals::{MOST_DECIMAL, MOST_FIGURE};
-use market::{MOST_RESOURCES, MOST_ZONES, Outcome, Refusal};
+use market::{MOST_RESOURCES, MOST_ZONES, Refusal};
+use prices::PricedCase;
 
 // No text is longer: it has the lines 'cost', 'bound' and 'gap', then those of the resources (number, on-line, e g c s o, LMP)
 // and of the zones (the word, number, four prices), each number at its longest.
@@ -34,11 +35,12 @@ fn outcome_text(b: &[u8], q: &[u8], out: &mut [u8]) -> usize
 {
     let answer = outcomes::check_certificate(b, q);
     match answer {
-        Outcome::Accepted(v) => {
+        Ok(v) => {
             let n = case_check::counts_at(b);
-            printed_lines::accepted_text(b, q, n, v, out)
+            let priced = PricedCase::new(b, q, n.resources, n.zones, n.flowgates);
+            printed_lines::accepted_text(&priced, v, out)
         }
-        Outcome::Refused(why) => printed_lines::refusal_line(why, out),
+        Err(why) => printed_lines::refusal_line(why, out),
     }
 }
 

@@ -1,9 +1,7 @@
-use native.Mathlib.Omega.{arith}
-use Rattle.decimals.proofs.Digits.{counted_more, counted_all}
+use Rattle.decimals.proofs.Digits.{count_by_log}
 use Rattle.decimals.proofs.digit_count.Goals as goal
 
-pub loop-rest-preserved : goal.loop-rest-preserved
-loop-rest-preserved c = counted_more _ _ _ c.loop-rest.invariant (omega arith)
-
 pub returns : goal.returns
-returns c = counted_all _ _ _ c.loop-rest.invariant (omega arith)
+returns c =
+    let log = c.checked_ilog10 in
+    rw c.unwrap_or.ensures (count_by_log c.args.n log.result log.ensures.none log.ensures.power_le log.ensures.next_power_gt log.ensures.bound)

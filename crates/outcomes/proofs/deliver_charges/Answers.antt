@@ -1,26 +1,72 @@
-use mathlib.Core.Path.{◌≡◌, sym, ◌∙◌}
-use native.Mathlib.Omega.{arith}
+use Rattle.std.proofs.lemmas.Result.{err_from_is_err_and}
+use Rattle.outcomes.proofs.Files.{of_files}
+use Rattle.std.proofs.Common.{List, ℕ, ◌++◌, drop, ◌≡◌, ◌+◌, ◌*◌, sym, ◌∙◌, ap, arith}
+use Rattle.market.specs.declared.Counts.{Counts}
 use Rattle.market.specs.CaseFile.{case_of}
-use Rattle.market.specs.Outcome.{grounds}
+use Rattle.market.specs.CaseCheck.{CountsWithin}
+use Rattle.market.specs.Certificate.{certificate_of}
+use Rattle.market.specs.Charges.{charge_count}
+use Rattle.market.specs.Outcome.{grounds, listed_charges, charge_answer, charge_buffer, charge_grounds}
 use Rattle.market.specs.Records.{counts_in}
-use Rattle.market.specs.Refusals.{first_of}
-use Rattle.case_check.specs.declared.Stage.TheVariants.{Passed, Refused}
-use Rattle.case_check.specs.Stages.{stage_of}
-use Rattle.outcomes.proofs.Passing.{has_head}
-use Rattle.outcomes.proofs.Lent.{charges_refused}
+use Rattle.market.proofs.Lengths.{charge_count_lem}
+use Rattle.outcomes.specs.Checked.{AcceptedWith}
+use Rattle.outcomes.proofs.Passing.{accepted_by, all_standing}
+use Rattle.outcomes.proofs.Lent.{lent_refused, lent_short, lent_written}
 use Rattle.outcomes.proofs.deliver_charges.Goals as goal
-use Rattle.outcomes.proofs.deliver_charges.Goals.{In_default}
+use Rattle.outcomes.proofs.deliver_charges.Goals.{In_ok-n}
 
-passed : (c : In_default) → c.rows_stage-stage.result ≡ Passed c.in_default.field-0
-passed c = cc
+stands : (c : In_ok-n) → AcceptedWith c.args.b.now c.args.q.now c.in_ok-n.n
+stands c = accepted_by c.args.b.now c.args.q.now _ (sym c.rows_stage.ensures.0 ∙ c.in_ok-n.was)
 
-stands : (c : In_default) → stage_of (counts_in (case_of c.args.b.now)) (first_of (grounds c.args.b.now c.args.q.now)) ≡ Passed c.in_default.field-0
-stands c = sym c.rows_stage-stage.ensures.0 ∙ passed c
+few : (c : In_ok-n) → CountsWithin c.in_ok-n.n.resources c.in_ok-n.n.zones c.in_ok-n.n.flowgates
+few c = (all_standing c.args.b.now c.args.q.now _ (stands c)).prices.case_bytes.counts
 
-pub counts_at-n-requires : goal.counts_at-n-requires
-counts_at-n-requires c = omega (arith, has_head c.args.b.now c.args.q.now _ (stands (goal.at.counts_at-n-requires c).In_default))
+pub returns-in_err-n : goal.returns-in_err-n
+unfolding charge_answer charge_buffer charge_grounds
+returns-in_err-n c =
+    let b = c.args.b.now in
+    let q = c.args.q.now in
+    let p = err_from_is_err_and c.from_residual.result c.from_residual.ensures.1 in
+    rw (p.1, p.2) (lent_refused (grounds b q) (charge_count (case_of b)) (listed_charges b q) c.args.out.now (counts_in (case_of b)) _ (sym c.rows_stage.ensures.0 ∙ c.in_err-n.was))
+
+needed : (c : In_ok-n) → let n = c.in_ok-n.n in 21 + 4 * n.zones + n.flowgates + 19 * n.resources ≡ charge_count (case_of c.args.b.now)
+needed c = let k = (stands c).counts in omega (arith, ap (λ (m : Counts). m.resources) k, ap (λ (m : Counts). m.zones) k, ap (λ (m : Counts). m.flowgates) k)
+
+pub returns-in_err-room : goal.returns-in_err-room
+unfolding charge_answer charge_buffer charge_grounds
+returns-in_err-room c =
+    let b = c.args.b.now in
+    let q = c.args.q.now in
+    let s = (goal.at.returns-in_err-room c).In_ok-n in
+    let p = err_from_is_err_and c.from_residual-in_err-room.result c.from_residual-in_err-room.ensures.1 in
+    rw (p.1, p.2) (lent_short (grounds b q) (charge_count (case_of b)) (listed_charges b q) c.args.out.now (stands s).none_holds _ (sym (rw (needed s) at c.room.ensures.answer) ∙ c.in_err-room.was))
+
+pub overflow_mul-own : goal.overflow_mul-own
+overflow_mul-own c = let k = few (goal.at.overflow_mul-own c).In_ok-n in omega (arith, k.most_resources, k.most_zones, k.most_flowgates)
+
+pub overflow_mul-n : goal.overflow_mul-n
+overflow_mul-n c = let k = few (goal.at.overflow_mul-n c).In_ok-n in omega (arith, k.most_resources, k.most_zones, k.most_flowgates)
+
+pub overflow_add-n : goal.overflow_add-n
+overflow_add-n c = let k = few (goal.at.overflow_add-n c).In_ok-n in omega (arith, k.most_resources, k.most_zones, k.most_flowgates)
+
+pub overflow_add-n-2 : goal.overflow_add-n-2
+overflow_add-n-2 c = let k = few (goal.at.overflow_add-n-2 c).In_ok-n in omega (arith, k.most_resources, k.most_zones, k.most_flowgates)
+
+pub overflow_add-n-3 : goal.overflow_add-n-3
+overflow_add-n-3 c = let k = few (goal.at.overflow_add-n-3 c).In_ok-n in omega (arith, k.most_resources, k.most_zones, k.most_flowgates)
+
+pub kept_case-requires : goal.kept_case-requires
+kept_case-requires c = (all_standing c.args.b.now c.args.q.now _ (stands (goal.at.kept_case-requires c).In_ok-n), c.rows_stage.ensures.1.known _ c.in_ok-n.was)
+
+pub write_charges-requires : goal.write_charges-requires
+write_charges-requires c = rw (c.kept_case.ensures.resources, c.kept_case.ensures.zones, c.kept_case.ensures.flowgates) (omega (arith, c.in_ok-room.ensures.enough))
 
 pub returns : goal.returns
+unfolding charge_answer charge_buffer charge_grounds
 returns c =
-    let h : c.rows_stage-stage.result ≡ Refused c.in-Refused.why = cc in
-    charges_refused c.args.b.now c.args.q.now c.args.out.now _ (sym c.rows_stage-stage.ensures.0 ∙ h)
+    let b = c.args.b.now in
+    let q = c.args.q.now in
+    let s = (goal.at.returns c).In_ok-n in
+    let written = λ (b : List ℕ) (q : List ℕ). listed_charges b q ++ drop (charge_count (case_of b)) c.args.out.now in
+    lent_written (grounds b q) (charge_count (case_of b)) (listed_charges b q) c.args.out.now (stands s).none_holds _ (sym (rw (needed s) at c.room.ensures.answer) ∙ c.in_ok-room.was) (charge_count_lem (case_of b) (certificate_of q).amount (certificate_of q).price) (c.write_charges.ensures ∙ of_files written c.kept_case.ensures.case c.kept_case.ensures.certificate)

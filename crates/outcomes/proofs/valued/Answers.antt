@@ -1,22 +1,19 @@
-use Rattle.outcomes.proofs.Passing.{gap_room}
-use Rattle.market.specs.Outcome.{valuation}
-use Rattle.market.specs.Records.{grains}
-use Rattle.market.specs.Bound.{bound}
-use Rattle.market.specs.Cost.{cost}
-use Rattle.market.specs.Certificate.{certificate_of}
+use Rattle.std.proofs.Common.{List, ℕ}
 use Rattle.market.specs.CaseFile.{case_of}
-use lib.IntN.{◌-ℤ◌}
-use mathlib.Core.Path.{◌≡◌, ◌∙◌}
+use Rattle.market.specs.Certificate.{certificate_of}
+use Rattle.market.specs.Outcome.{valuation}
+use Rattle.prices.specs.PricedCase.{case_bytes, certificate_bytes}
+use Rattle.outcomes.proofs.Files.{of_files}
+use Rattle.outcomes.proofs.Passing.{gap_room}
 use Rattle.outcomes.proofs.valued.Goals as goal
-use Rattle.outcomes.proofs.valued.Goals.{After-grains_difference-gap}
 
-pub grains_difference-gap-requires : goal.grains_difference-gap-requires
-grains_difference-gap-requires c = rw (c.cost-cost.ensures, c.bound-bound.ensures) (gap_room c.args.b.now c.args.q.now c.requires.0)
-
-gap_is : (c : After-grains_difference-gap) →
-    c.grains_difference-gap.result ≡ grains (cost (case_of c.args.b.now) (certificate_of c.args.q.now).amount -ℤ bound (case_of c.args.b.now) (certificate_of c.args.q.now).price)
-gap_is c = c.grains_difference-gap.ensures ∙ rw (c.cost-cost.ensures, c.bound-bound.ensures)
+pub difference-gap-requires : goal.difference-gap-requires
+difference-gap-requires c =
+    let s = c.kept_case-kept.result.bounded in
+    rw (c.cost-cost.ensures, c.bound-bound.ensures) (gap_room (case_bytes s.priced) (certificate_bytes s.priced) s.standing)
 
 pub returns : goal.returns
 unfolding valuation
-returns c = (λ i. record { cost = c.cost-cost.ensures i; bound = c.bound-bound.ensures i; gap = (gap_is (goal.at.returns c).After-grains_difference-gap) i })
+returns c =
+    let of = λ (b : List ℕ) (q : List ℕ). valuation (case_of b) (certificate_of q) in
+    rw (c.difference-gap.ensures, c.cost-cost.ensures, c.bound-bound.ensures) (of_files of c.kept_case-kept.ensures.case c.kept_case-kept.ensures.certificate)
