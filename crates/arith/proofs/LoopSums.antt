@@ -1,5 +1,5 @@
--- A sum that a loop makes over the numbers below n, in a unit: what stands before the first turn, after one more, and at the end.
--- A proof's invariant is `SumTo n j sum`; its three needs are `no_turn_yet`, `one_turn_more`, `last_turn_over`.
+-- A sum that a loop makes over the numbers below n, in a unit: what stands before the first turn, and after one more.
+-- A proof's invariant is `SumTo n j sum`; its two needs are `no_turn_yet` and `one_turn_more`.
 use mathlib.Core.Path.{◌≡◌, refl, ◌∙◌}
 use Prim.Native.Nat.{ℕ, ◌+◌, ◌<◌, ◌≤◌}
 use native.Mathlib.Omega.{arith}
@@ -18,6 +18,3 @@ module _ {U : Type 0} (unit : ℤ → U) (value : U → ℤ) (again : (z : ℤ) 
 
   pub one_turn_more : {n j : ℕ} {sum one next : U} → SumTo n j sum → j < n → one ≡ unit (term j) → next ≡ unit (value sum +ℤ value one) → SumTo n (j + 1) next
   one_turn_more {n} {j} h l e k = (omega arith, k ∙ rw (h.1, e, again (sum_of term (upto j)), again (term j), sum-upto term j))
-
-  pub last_turn_over : {n j : ℕ} {sum : U} → SumTo n j sum → n ≤ j → sum ≡ unit (sum_of term (upto n))
-  last_turn_over {n} {j} h l = let e : j ≡ n = omega arith in rw (← e) h.1

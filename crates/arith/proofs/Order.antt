@@ -98,14 +98,6 @@ min-le-r a b = omega (zl, plus_part-min a b, minus_part-min a b)
 pub le-min : {a b c : ℤ} → c ≤ℤ a → c ≤ℤ b → c ≤ℤ min_ℤ a b
 le-min {a} {b} {c} h k = omega (zl, plus_part-min a b, minus_part-min a b, part a, part b, part c)
 
-pub min_yes : (a b : ℤ) → le_z a b ≡ true → min_ℤ a b ≡ a
-unfolding min_ℤ
-min_yes a b e = ap (λ (t : Bool). cond t a b) e
-
-pub min_no : (a b : ℤ) → le_z a b ≡ false → min_ℤ a b ≡ b
-unfolding min_ℤ
-min_no a b e = ap (λ (t : Bool). cond t a b) e
-
 -- ---- a difference of natural numbers
 pub pos-sub : (m n : ℕ) → n ≤ m → pos m -ℤ pos n ≡ pos (m - n)
 pos-sub m n h = eq_in (omega (arith, add_fact (pos m) (neg_ℤ (pos n)), plus_part-neg (pos n), minus_part-neg (pos n)))

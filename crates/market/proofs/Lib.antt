@@ -32,6 +32,7 @@ pub mod AvailabilityTests
 pub mod LimitsInWords
 pub mod BoundsInWords
 pub mod AvailabilityInWords
+pub mod BitsInWords
 pub mod KnownRanges
 pub mod Ranges
 pub mod LimitSizes

@@ -1,11 +1,14 @@
 -- A case: the figures of one dispatch interval, whatever file they came from (01, 'What is carried', 'The case file').
 -- Resources, zones, flowgates and steps count from 0 here. Power is in kW, prices are in cents per MWh.
 use Rattle.std.specs.Prelude.{List, [], ◌∷◌, ℕ, zero, suc, ◌+◌, ℤ}
+-- the four demand curves, each with its reserve rows
+pub use Rattle.market.specs.declared.Curve.{Curve}
+pub use Rattle.market.specs.declared.Curve.TheVariants.{Operating as operating, RegulatingPlusSpinning as regulating_plus_spinning, Regulating as regulating, ShortTerm as short_term}
+-- the three reserves that have a multiplier, minutes, a largest share and a market requirement
+pub use Rattle.market.specs.declared.Reserve.{Reserve}
+pub use Rattle.market.specs.declared.Reserve.TheVariants.{Regulating as regulating_reserve, Contingency as contingency_reserve, ShortTerm as short_term_reserve}
 
--- the four demand curves, each with its reserve rows, in the file's order
-pub data Curve : Type 0 where
-  operating regulating_plus_spinning regulating short_term : Curve
-
+-- in the file's order
 abbrev pub curves : List Curve
 curves = operating ∷ regulating_plus_spinning ∷ regulating ∷ short_term ∷ []
 
@@ -14,17 +17,6 @@ curve_number operating = 0
 curve_number regulating_plus_spinning = 1
 curve_number regulating = 2
 curve_number short_term = 3
-
--- the curve of a number, which is at most 3
-abbrev pub curve_numbered : ℕ → Curve
-curve_numbered zero = operating
-curve_numbered (suc zero) = regulating_plus_spinning
-curve_numbered (suc (suc zero)) = regulating
-curve_numbered (suc (suc (suc n))) = short_term
-
--- the three reserves that have a multiplier, minutes, a largest share and a market requirement
-pub data Reserve : Type 0 where
-  regulating_reserve contingency_reserve short_term_reserve : Reserve
 
 abbrev pub reserves : List Reserve
 reserves = regulating_reserve ∷ contingency_reserve ∷ short_term_reserve ∷ []

@@ -17,7 +17,8 @@ most_zones = 8
 abbrev pub most_flowgates : ℕ
 most_flowgates = 12
 
--- r, z and f are at most these
+-- r, z and f are at most these. In code it is asked and carried by no type: `Counts` holds what any three bytes say, before 3 is tested,
+-- and where a flowgate or a resource's amounts begin is asked with an index in one count's place.
 pub record CountsWithin (r z f : ℕ) : Type 0 where
   pub most_resources : r ≤ most_resources
   pub most_zones : z ≤ most_zones

@@ -1,5 +1,6 @@
 pub mod Bytes
 pub mod Bits
+pub mod BitsInWords
 pub mod Kinds
 pub mod Edition
 pub mod Case

@@ -1,5 +1,5 @@
 -- The records that code reads by value, as they follow from the figures of a case and of a certificate.
-use Rattle.std.specs.Prelude.{List, [], ◌∷◌, ℕ, eqb, ℤ, pos}
+use Rattle.std.specs.Prelude.{List, [], ◌∷◌, ℕ, ℤ, pos}
 use Rattle.market.specs.declared.Kw.{Kw}
 use Rattle.market.specs.declared.KwPerMinute.{KwPerMinute}
 use Rattle.market.specs.declared.Minutes.{Minutes}
@@ -23,7 +23,7 @@ use Rattle.market.specs.declared.LimitPrices.{LimitPrices}
 use Rattle.market.specs.declared.PerCurve.{PerCurve}
 use Rattle.market.specs.declared.Resource as D
 use Rattle.market.specs.Bits.{status_bits}
-use Rattle.market.specs.Kinds.{kind_of}
+use Rattle.market.specs.Kinds.{kind_of, breaker_of}
 use Rattle.market.specs.Case.{Case, Resource, Curve, Reserve, regulating_reserve, contingency_reserve, short_term_reserve, operating, regulating_plus_spinning, regulating, short_term}
 use Rattle.market.specs.UpperBounds.{cleared_quantity, provided_quantity, energy, regulation, contingency, on_line_short_term, off_line_short_term, Schedule}
 use Rattle.market.specs.Rows.{Row, limit_row, max_with_reserve, max_with_short_term, minimum, high, low}
@@ -79,7 +79,7 @@ state_of r =
     record {
       kind = kind_of r.kind;
       zone = r.zone;
-      breaker_closed = eqb r.breaker 1;
+      breaker = breaker_of r.breaker;
       status = record { 0 = status_bits r.status };
       trip = minutes r.trip;
       flags = record { 0 = r.flags };

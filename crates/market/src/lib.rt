@@ -4,9 +4,10 @@
 
 ghost use Rattle.std.specs.Prelude.{◌≡◌, refl, ℤ, pos};
 ghost use Rattle.market.specs.Bits.{has, status_of, status_bits};
-ghost use Rattle.market.specs.Kinds.{kind_of};
+ghost use Rattle.market.specs.Kinds.{kind_of, breaker_of};
+ghost use Rattle.market.specs.Case.{curve_number};
 ghost use Rattle.market.specs.Availability.{on_line_figure, is_on_line};
-ghost use Rattle.market.specs.CaseFile.{flowgate_place, case_size};
+ghost use Rattle.market.specs.CaseFile.{flowgate_place, case_size, pair_place, share_order};
 ghost use Rattle.market.specs.CaseCheck.{CountsWithin};
 ghost use Rattle.market.specs.Certificate.{amounts_place, certificate_size};
 ghost use Rattle.market.specs.Refusals.{number_of, place_of, answer_of, result_of, count_of};
@@ -113,18 +114,18 @@ pub fn amounts_place(zones: usize, flowgates: usize, i: usize) -> usize
 
 // ---- how many bytes a file of these counts has
 
-pub fn case_size(resources: usize, zones: usize, flowgates: usize) -> usize
-    requires { CountsWithin resources zones flowgates }
-    ensures { result ≡ case_size resources zones flowgates }
+pub fn case_size(n: Counts) -> usize
+    requires { CountsWithin n.resources n.zones n.flowgates }
+    ensures { result ≡ case_size n.resources n.zones n.flowgates }
 {
-    flowgate_place(resources, zones, flowgates)
+    flowgate_place(n.resources, n.zones, n.flowgates)
 }
 
-pub fn certificate_size(resources: usize, zones: usize, flowgates: usize) -> usize
-    requires { CountsWithin resources zones flowgates }
-    ensures { result ≡ certificate_size resources zones flowgates }
+pub fn certificate_size(n: Counts) -> usize
+    requires { CountsWithin n.resources n.zones n.flowgates }
+    ensures { result ≡ certificate_size n.resources n.zones n.flowgates }
 {
-    amounts_place(zones, flowgates, resources)
+    amounts_place(n.zones, n.flowgates, n.resources)
 }
 
 // ---- units
@@ -182,6 +183,7 @@ pub trait Unit: Copy {
     ghost number_of: { (v : ℤ) → number (of v) ≡ v };
 }
 
+// Each written out: `rt ci` takes no `impl` that a macro of the repository writes.
 impl Unit for Kw {
     ghost number = { λ a. a.0 };
 
@@ -278,6 +280,13 @@ impl Unit for Grains {
     }
 }
 
+// Whether a bit is set in some; none is set in no bit.
+fn is_set(bit: u8, bits: u8) -> bool
+    ensures { result ≡ has bit bits }
+{
+    bit != 0 && bits / bit % 2 == 1
+}
+
 // A resource's status bits; none above 8 is set. Only this crate makes one of a byte.
 #[derive(Clone, Copy, Drop)]
 pub struct Status(u8);
@@ -317,11 +326,11 @@ impl Status {
         Status(byte % (Status::MOST.0 + 1))
     }
 
-    // Whether the bit is set; none is set in no bit.
+    // Whether the bit is set.
     pub fn has(self, bit: Status) -> bool
         ensures { result ≡ has bit.0 self.0 }
     {
-        bit.0 != 0 && self.0 / bit.0 % 2 == 1
+        is_set(bit.0, self.0)
     }
 }
 
@@ -346,11 +355,11 @@ impl Flags {
 
     pub const ON_LINE_SHORT_TERM: Flags = Flags(128);
 
-    // Whether the flag is set; none is set in no flag.
+    // Whether the flag is set.
     pub fn has(self, flag: Flags) -> bool
         ensures { result ≡ has flag.0 self.0 }
     {
-        flag.0 != 0 && self.0 / flag.0 % 2 == 1
+        is_set(flag.0, self.0)
     }
 }
 
@@ -386,35 +395,107 @@ impl Availability {
     }
 }
 
-// What a resource is (01, 'Before the rows').
+// What a resource is, by its record's byte (01, 'The case file').
 #[derive(Clone, Copy, Debug, PartialEq, Eq, Hash)]
 pub enum Kind {
     Conventional,
     Intermittent,
     External,
+    Unknown(u8),
 }
 
-// A byte that names no kind.
-#[derive(Clone, Copy, Debug, PartialEq, Eq, Hash)]
-pub struct UnknownKind(pub u8);
+impl From<u8> for Kind {
+    ghost from_gives = { λ byte r. r ≡ kind_of byte };
 
-impl TryFrom<u8> for Kind {
-    type Error = UnknownKind;
-
-    ghost try_from_gives = { λ byte r. r ≡ kind_of byte };
-
-    fn try_from(byte: u8) -> Result<Kind, UnknownKind> {
+    fn from(byte: u8) -> Kind {
         match byte {
-            1 => Ok(Kind::Conventional),
-            2 => Ok(Kind::Intermittent),
-            3 => Ok(Kind::External),
-            _ => Err(UnknownKind(byte)),
+            1 => Kind::Conventional,
+            2 => Kind::Intermittent,
+            3 => Kind::External,
+            _ => Kind::Unknown(byte),
+        }
+    }
+}
+
+// A resource's breaker, by its record's byte (01, 'The case file').
+#[derive(Clone, Copy, Debug, PartialEq, Eq, Hash)]
+pub enum Breaker {
+    Open,
+    Closed,
+    Unknown(u8),
+}
+
+impl From<u8> for Breaker {
+    ghost from_gives = { λ byte r. r ≡ breaker_of byte };
+
+    fn from(byte: u8) -> Breaker {
+        match byte {
+            0 => Breaker::Open,
+            1 => Breaker::Closed,
+            _ => Breaker::Unknown(byte),
+        }
+    }
+}
+
+// The four demand curves, each with its reserve rows, in the file's order (01, 'What is carried').
+#[derive(Clone, Copy, Debug, PartialEq, Eq, Hash)]
+pub enum Curve {
+    Operating,
+    RegulatingPlusSpinning,
+    Regulating,
+    ShortTerm,
+}
+
+impl Curve {
+    pub const ALL: [Curve; CURVES] = [
+        Curve::Operating,
+        Curve::RegulatingPlusSpinning,
+        Curve::Regulating,
+        Curve::ShortTerm,
+    ];
+
+    // Its place among the four, from 0 on.
+    pub fn number(self) -> usize
+        ensures { result ≡ curve_number self }
+    {
+        self as usize
+    }
+}
+
+// The three reserves that have a multiplier, minutes, a largest share and a market requirement (01, 'The case file').
+#[derive(Clone, Copy, Debug, PartialEq, Eq, Hash)]
+pub enum Reserve {
+    Regulating,
+    Contingency,
+    ShortTerm,
+}
+
+impl Reserve {
+    // Where its multiplier and, two bytes on, its minutes stand in the head of a case.
+    pub fn pair_place(self) -> usize
+        ensures { result ≡ pair_place self }
+    {
+        match self {
+            Reserve::Contingency => 12,
+            Reserve::Regulating => 16,
+            Reserve::ShortTerm => 20,
+        }
+    }
+
+    // Its place among the shares and among the requirements, from 0 on.
+    pub fn share_order(self) -> usize
+        ensures { result ≡ share_order self }
+    {
+        match self {
+            Reserve::Regulating => 0,
+            Reserve::Contingency => 1,
+            Reserve::ShortTerm => 2,
         }
     }
 }
 
 // What a case file counts: resources, zones, flowgates.
-#[derive(Clone, Copy, Drop)]
+#[derive(Clone, Copy, Drop, PartialEq, Eq)]
 pub struct Counts {
     pub resources: usize,
     pub zones: usize,
@@ -435,9 +516,9 @@ pub type CurveSteps = [Step; CURVE_STEPS];
 // A resource's record, read by value. `trip` is the time since the last trip, 255 for none.
 #[derive(Clone, Copy, Drop)]
 pub struct State {
-    pub kind: Result<Kind, UnknownKind>,
+    pub kind: Kind,
     pub zone: u8,
-    pub breaker_closed: bool,
+    pub breaker: Breaker,
     pub trip: Minutes,
     pub flags: Flags,
     pub output: Kw,

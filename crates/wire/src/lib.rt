@@ -1,13 +1,18 @@
 // Big-endian numbers at a place of a slice of bytes, out of it, plain or in their unit, and into it. Each function asks that the bytes that it
-// reads or writes lie within the slice.
+// reads or writes lie within the slice. There is one for each width: std has no trait that `from_be_bytes` and `to_be_bytes` of two
+// widths have in common, and with one of our own each width would have an `impl` of as many methods as it has functions here.
 #![tactic(auto)]
 
-ghost use Rattle.std.specs.Prelude.{◌≡◌, ◌<◌, [], ◌∷◌, pos};
+ghost use Rattle.std.specs.Prelude.{◌≡◌, ◌+◌, ◌<◌, [], ◌∷◌, pos};
 ghost use Rattle.market.specs.Bytes.{u8_at, u16_at, u32_at, i16_at, i32_at};
 ghost use Rattle.market.specs.Numbers.{u16_bytes, u32_bytes, i16, i32, field_bytes};
 ghost use Rattle.wire.specs.Within.{Within, Signed, written};
 
-use market::Unit;
+use market::{PerCurve, Unit};
+
+mod case_parts;
+
+pub use case_parts::{CaseHead, FileStep, ResourceBytes};
 
 pub fn u8_at(b: &[u8], at: usize) -> u8
     requires { Within b.now at 1 }
@@ -58,6 +63,22 @@ pub fn signed_figure_at<U: Unit>(b: &[u8], at: usize) -> U
     ensures { result ≡ U.of (i32_at b.now at) }
 {
     U::of(i32_at(b, at))
+}
+
+// A figure for each demand curve, one behind the other from a place on.
+pub fn per_curve_at<U: Unit>(b: &[u8], at: usize) -> PerCurve<U>
+    requires { Within b.now at 16 }
+    ensures operating { result.operating ≡ U.of (pos (u32_at b.now at)) }
+    ensures regulating_plus_spinning { result.regulating_plus_spinning ≡ U.of (pos (u32_at b.now (at + 4))) }
+    ensures regulating { result.regulating ≡ U.of (pos (u32_at b.now (at + 8))) }
+    ensures short_term { result.short_term ≡ U.of (pos (u32_at b.now (at + 12))) }
+{
+    PerCurve {
+        operating: figure_at(b, at),
+        regulating_plus_spinning: figure_at(b, at + 4),
+        regulating: figure_at(b, at + 8),
+        short_term: figure_at(b, at + 12),
+    }
 }
 
 // ---- into a slice: the other bytes stay as they are
