@@ -1,6 +1,7 @@
 -- Grounds 6 and 7 piece by piece, as the code tests them: parts of `steps_rule` and `limits_ordered` of market's CaseCheck.
 use Rattle.std.specs.Prelude.{ℕ, ◌+◌, Bool, true, pos}
-use Rattle.market.specs.Case.{Case, Resource, Curve, curve_steps}
+use Rattle.market.specs.Case.{Case, Resource, curve_steps}
+use Rattle.market.specs.declared.Curve.{Curve}
 use Rattle.market.specs.CaseCheck.{steps_follow, steps_right, never_falls, never_rises, energy_steps_right, pairs_ordered}
 
 -- ---- a resource's energy steps
@@ -15,9 +16,6 @@ abbrev pub offer_right : Case → ℕ → Bool
 offer_right c i = energy_steps_right (c.resource i)
 
 -- ---- a curve's steps
-abbrev pub curve_starts : Case → Curve → Bool
-curve_starts c k = steps_follow (λ v v'. true) 1 (pos 0) (c.curve_width k 0) (pos (c.curve_price k 0))
-
 abbrev pub curve_follows : Case → Curve → ℕ → Bool
 curve_follows c k j =
     steps_follow never_rises (c.curve_width k j) (pos (c.curve_price k j)) (c.curve_width k (j + 1)) (pos (c.curve_price k (j + 1)))

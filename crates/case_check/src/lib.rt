@@ -2,188 +2,152 @@
 // (01, 'How each operation refuses'). `case_stage` is what the other operations start from.
 #![tactic(auto)]
 
-ghost use Rattle.std.specs.Prelude.{◌≡◌, ◌+◌, ◌*◌, ◌<◌, ◌≤◌, true, length, pos, IfOk, ◌==◌, int_le, nat_le};
+ghost use Rattle.std.specs.Prelude.{◌≡◌, ◌+◌, ◌<◌, ◌≤◌, true, length, pos, IfOk, ◌==◌, int_le};
 ghost use Rattle.arith.specs.Sums.{upto, all};
-ghost use Rattle.market.specs.Bytes.{u8_at, u32_at, signed, within};
-ghost use Rattle.market.specs.Case.{energy_steps, width_of, curves, curve_numbered};
-ghost use Rattle.market.specs.CaseFile.{head_size, resource_size, case_size, resource_at, case_of};
+ghost use Rattle.market.specs.Bytes.{u8_at, signed};
+ghost use Rattle.market.specs.Case.{energy_steps, width_of, curves};
+ghost use Rattle.market.specs.CaseFile.{case_size, case_of};
 ghost use Rattle.market.specs.CaseCheck.{CountsWithin, length_right, version_right, counts_right, fields_in_range, steps_follow, steps_rule, energy_steps_right, pairs_ordered, limits_ordered};
 ghost use Rattle.market.specs.Records.{counts_in};
 ghost use Rattle.market.specs.Refusals.{answered, first_of};
 ghost use Rattle.market.specs.Numbers.{field_grounds};
 ghost use Rattle.market.specs.Outcome.{case_grounds, case_answer};
 ghost use Rattle.wire.specs.Within.{Within};
-ghost use Rattle.wire.specs.CaseBytes.{CaseBytes};
-ghost use Rattle.case_ranges.specs.Pieces.{ResourcesIn};
+ghost use Rattle.wire.specs.CaseParts.{head_of, figures_of};
+ghost use Rattle.case_reader.specs.Reader.{case_in};
 ghost use Rattle.case_check.specs.Stages.{shape_grounds, CaseBytesOf, SoundCase};
-ghost use Rattle.case_check.specs.Pieces.{offer_starts, offer_follows, offer_right, curve_starts, curve_follows, curve_right, limits_right};
+ghost use Rattle.case_check.specs.Pieces.{offer_starts, offer_follows, offer_right, curve_follows, curve_right};
 
+use case_reader::SizedCase;
 use market::{
-    CURVE_PRICES, CURVE_SIZE, CURVE_WIDTHS, Counts, HEAD_SIZE, MOST_FLOWGATES, MOST_RESOURCES,
-    MOST_ZONES, OFFER_PRICES, OFFER_WIDTHS, RESOURCE_SIZE, Refusal, STEP_SIZE, ZONE_SIZE,
+    Counts, Curve, ENERGY_STEPS, HEAD_SIZE, MOST_FLOWGATES, MOST_RESOURCES, MOST_ZONES, Refusal,
 };
+use wire::{CaseHead, FileStep, ResourceBytes};
 
 // ---- 6: steps of width 0 come last, with price 0; prices keep their order; energy widths have a largest sum
-// A step after one of this width; `ordered` says whether their prices stand in their order.
-fn follows(width: u32, next: u32, price: u32, ordered: bool) -> bool
-    ensures { result ≡ steps_follow (λ p q. ordered) width (pos 0) next (pos price) }
+// Whether `next` may stand after a step; `ordered` says whether their prices stand in their order.
+fn follows(step: FileStep, next: FileStep, ordered: bool) -> bool
+    ensures { result ≡ steps_follow (λ p q. ordered) step.width (pos 0) next.width (pos next.price) }
 {
-    if next == 0 {
-        return price == 0;
+    if next.width == 0 {
+        return next.price == 0;
     }
-    width > 0 && ordered
+    step.width > 0 && ordered
 }
 
-// Two prices in two's complement: half the range further on, they stand in the order of their numbers.
+// Whether a step may be the first: none stands before it.
+fn starts(step: FileStep) -> bool
+    ensures { result ≡ steps_follow (λ p q. true) 1 (pos 0) step.width (pos step.price) }
+{
+    let none = FileStep { width: 1, price: 0 };
+    follows(none, step, true)
+}
+
+// Of two prices with a sign.
 fn not_above(a: u32, b: u32) -> bool
     ensures { result ≡ int_le (signed 2147483648 a) (signed 2147483648 b) }
 {
-    std::num::wrapping_add_u32(a, 2147483648) <= std::num::wrapping_add_u32(b, 2147483648)
+    a.cast_signed() <= b.cast_signed()
 }
 
-// The first step has none before it.
-fn offer_starts(b: &[u8], at: usize) -> bool
-    requires { Within b.now at resource_size }
-    ensures { result ≡ offer_starts (resource_at b.now at) }
+fn offer_starts(resource: &ResourceBytes<'_>) -> bool
+    ensures { result ≡ offer_starts (figures_of resource.now) }
 {
-    let width = wire::u32_at(b, at + OFFER_WIDTHS);
-    let price = wire::u32_at(b, at + OFFER_PRICES);
-    follows(1, width, price, true)
+    starts(resource.step(0))
 }
 
-fn offer_step_follows(b: &[u8], at: usize, j: usize) -> bool
-    requires { (Within b.now at resource_size) × (j < 9) }
-    ensures { result ≡ offer_follows (resource_at b.now at) j }
+fn offer_step_follows(resource: &ResourceBytes<'_>, j: usize) -> bool
+    requires { j < 9 }
+    ensures { result ≡ offer_follows (figures_of resource.now) j }
 {
-    let width = wire::u32_at(b, at + OFFER_WIDTHS + j * STEP_SIZE);
-    let price = wire::u32_at(b, at + OFFER_PRICES + j * STEP_SIZE);
-    let next_width = wire::u32_at(b, at + OFFER_WIDTHS + (j + 1) * STEP_SIZE);
-    let next_price = wire::u32_at(b, at + OFFER_PRICES + (j + 1) * STEP_SIZE);
-    follows(width, next_width, next_price, not_above(price, next_price))
+    let step = resource.step(j);
+    let next = resource.step(j + 1);
+    follows(step, next, not_above(step.price, next.price))
 }
 
 // Every step is looked at, also after one that fails: nine tests in a row cost less than nine ways out.
-fn offer_follows(b: &[u8], at: usize) -> bool
-    requires { Within b.now at resource_size }
-    ensures { result ≡ all (offer_follows (resource_at b.now at)) (upto 9) }
+fn offer_follows(resource: &ResourceBytes<'_>) -> bool
+    ensures { result ≡ all (offer_follows (figures_of resource.now)) (upto 9) }
 {
-    (0..9).fold(true, |right, j| right & offer_step_follows(b, at, j))
+    (0..9).fold(true, |right, j| right & offer_step_follows(resource, j))
 }
 
-fn wide(x: u32) -> u64
-    ensures { (result ≡ x) × (result < 4294967296) }
-{
-    x as u64
-}
-
-fn offer_width(b: &[u8], at: usize) -> u64
-    requires { Within b.now at resource_size }
-    ensures { result ≡ width_of (resource_at b.now at).step_width energy_steps }
+fn offer_width(resource: &ResourceBytes<'_>) -> u64
+    ensures { result ≡ width_of (figures_of resource.now).step_width energy_steps }
 {
     let mut sum: u64 = 0;
-    for j in 0..10 {
-        sum += wide(wire::u32_at(b, at + OFFER_WIDTHS + j * STEP_SIZE));
+    for j in 0..ENERGY_STEPS {
+        sum += u64::from(resource.step(j).width);
     }
     sum
 }
 
 #[tactic(auto, unfolding(market::specs::CaseCheck::energy_steps_right, market::specs::CaseCheck::steps_right))]
-fn offer_right(b: &[u8], at: usize) -> bool
-    requires { Within b.now at resource_size }
-    ensures { result ≡ energy_steps_right (resource_at b.now at) }
+fn offer_right(resource: &ResourceBytes<'_>) -> bool
+    ensures { result ≡ energy_steps_right (figures_of resource.now) }
 {
-    offer_starts(b, at) && offer_follows(b, at) && offer_width(b, at) <= 2000000
+    offer_starts(resource) && offer_follows(resource) && offer_width(resource) <= 2000000
 }
 
-fn offers_right(b: &[u8], resources: usize, zones: usize) -> bool
-    requires { ResourcesIn b.now resources zones }
-    ensures { result ≡ all (offer_right (case_of b.now)) (upto resources) }
+fn offers_right(case: &SizedCase<'_>) -> bool
+    ensures { result ≡ all (offer_right (case_in case.now)) (upto case.now.resources) }
 {
-    let first = HEAD_SIZE + zones * ZONE_SIZE;
-    (0..resources).all(|i| offer_right(b, first + i * RESOURCE_SIZE))
+    (0..case.resources).all(|i| offer_right(&case.resource_bytes(i)))
 }
 
-// Of the curve of this number.
-fn curve_starts(b: &[u8], curve: usize) -> bool
-    requires { (Within b.now 0 head_size) × (curve < 4) }
-    ensures { result ≡ curve_starts (case_of b.now) (curve_numbered curve) }
+// Beside `offer_step_follows`: other parts of the file, and prices that never rise. The rule that both keep is `follows`.
+fn curve_step_follows(head: &CaseHead<'_>, curve: Curve, j: usize) -> bool
+    requires { j < 3 }
+    ensures { result ≡ curve_follows (head_of head.now) curve j }
 {
-    let width = wire::u32_at(b, CURVE_WIDTHS + curve * CURVE_SIZE);
-    let price = wire::u32_at(b, CURVE_PRICES + curve * CURVE_SIZE);
-    follows(1, width, price, true)
+    let step = head.step(curve, j);
+    let next = head.step(curve, j + 1);
+    follows(step, next, next.price <= step.price)
 }
 
-fn curve_step_follows(b: &[u8], curve: usize, j: usize) -> bool
-    requires { (Within b.now 0 head_size) × (curve < 4) × (j < 3) }
-    ensures { result ≡ curve_follows (case_of b.now) (curve_numbered curve) j }
+// It ends at the first step that fails, as `offer_follows` does not.
+fn curve_follows(head: &CaseHead<'_>, curve: Curve) -> bool
+    ensures { result ≡ all (curve_follows (head_of head.now) curve) (upto 3) }
 {
-    let width = wire::u32_at(b, CURVE_WIDTHS + curve * CURVE_SIZE + j * STEP_SIZE);
-    let price = wire::u32_at(b, CURVE_PRICES + curve * CURVE_SIZE + j * STEP_SIZE);
-    let next_width = wire::u32_at(b, CURVE_WIDTHS + curve * CURVE_SIZE + (j + 1) * STEP_SIZE);
-    let next_price = wire::u32_at(b, CURVE_PRICES + curve * CURVE_SIZE + (j + 1) * STEP_SIZE);
-    follows(width, next_width, next_price, next_price <= price)
-}
-
-fn curve_follows(b: &[u8], curve: usize) -> bool
-    requires { (Within b.now 0 head_size) × (curve < 4) }
-    ensures { result ≡ all (curve_follows (case_of b.now) (curve_numbered curve)) (upto 3) }
-{
-    (0..3).all(|j| curve_step_follows(b, curve, j))
+    (0..3).all(|j| curve_step_follows(head, curve, j))
 }
 
 #[tactic(auto, unfolding(market::specs::CaseCheck::steps_right))]
-fn curve_right(b: &[u8], curve: usize) -> bool
-    requires { (Within b.now 0 head_size) × (curve < 4) }
-    ensures { result ≡ curve_right (case_of b.now) (curve_numbered curve) }
+fn curve_right(head: &CaseHead<'_>, curve: Curve) -> bool
+    ensures { result ≡ curve_right (head_of head.now) curve }
 {
-    curve_starts(b, curve) && curve_follows(b, curve)
+    starts(head.step(curve, 0)) && curve_follows(head, curve)
 }
 
-fn curves_right(b: &[u8]) -> bool
-    requires { Within b.now 0 head_size }
-    ensures { result ≡ all (curve_right (case_of b.now)) curves }
+#[tactic(auto, unfolding(arith::specs::Sums::all))]
+fn curves_right(head: &CaseHead<'_>) -> bool
+    ensures { result ≡ all (curve_right (head_of head.now)) curves }
 {
-    (0..4).all(|curve| curve_right(b, curve))
+    Curve::ALL.iter().all(|curve| curve_right(head, *curve))
 }
 
 #[tactic(auto, unfolding(market::specs::CaseCheck::steps_rule, market::specs::CaseFile::case_of))]
-fn steps_right(b: &[u8], n: Counts) -> bool
-    requires { CaseBytes b.now n.resources n.zones n.flowgates }
-    ensures { result ≡ steps_rule (case_of b.now) }
+fn steps_right(case: &SizedCase<'_>) -> bool
+    ensures { result ≡ steps_rule (case_in case.now) }
 {
-    curves_right(b) && offers_right(b, n.resources, n.zones)
+    curves_right(&case.head()) && offers_right(case)
 }
 
 // ---- 7: no minimum above its maximum
-fn ordered(b: &[u8], low: usize, high: usize) -> bool
-    requires { (Within b.now low 4) × (Within b.now high 4) }
-    ensures { result ≡ nat_le (u32_at b.now low) (u32_at b.now high) }
-{
-    wire::u32_at(b, low) <= wire::u32_at(b, high)
-}
-
 #[tactic(auto, unfolding(market::specs::CaseCheck::pairs_ordered, market::specs::CaseFile::resource_at))]
-fn pairs_ordered(b: &[u8], at: usize) -> bool
-    requires { Within b.now at resource_size }
-    ensures { result ≡ pairs_ordered (resource_at b.now at) }
+fn pairs_ordered(resource: &ResourceBytes<'_>) -> bool
+    ensures { result ≡ pairs_ordered (figures_of resource.now) }
 {
     // economic, regulating, emergency
-    ordered(b, at + 10, at + 14) && ordered(b, at + 18, at + 22) && ordered(b, at + 26, at + 30)
+    resource.u32(10) <= resource.u32(14)
+        && resource.u32(18) <= resource.u32(22)
+        && resource.u32(26) <= resource.u32(30)
 }
 
-fn limits_right(b: &[u8], resources: usize, zones: usize) -> bool
-    requires { ResourcesIn b.now resources zones }
-    ensures { result ≡ all (limits_right (case_of b.now)) (upto resources) }
+fn limits_ordered(case: &SizedCase<'_>) -> bool
+    ensures { result ≡ limits_ordered (case_in case.now) }
 {
-    let first = HEAD_SIZE + zones * ZONE_SIZE;
-    (0..resources).all(|i| pairs_ordered(b, first + i * RESOURCE_SIZE))
-}
-
-fn limits_ordered(b: &[u8], n: Counts) -> bool
-    requires { CaseBytes b.now n.resources n.zones n.flowgates }
-    ensures { result ≡ limits_ordered (case_of b.now) }
-{
-    limits_right(b, n.resources, n.zones)
+    (0..case.resources).all(|i| pairs_ordered(&case.resource_bytes(i)))
 }
 
 // ---- 1 to 4: the file's shape
@@ -207,7 +171,7 @@ pub fn count_at(b: &[u8], at: usize) -> usize
     requires { Within b.now at 1 }
     ensures { result ≡ u8_at b.now at }
 {
-    wire::u8_at(b, at) as usize
+    usize::from(wire::u8_at(b, at))
 }
 
 pub fn counts_at(b: &[u8]) -> Counts
@@ -221,26 +185,20 @@ pub fn counts_at(b: &[u8]) -> Counts
     }
 }
 
-fn count_right(count: usize, least: usize, most: usize) -> bool
-    ensures { result ≡ within least most count }
-{
-    least <= count && count <= most
-}
-
 #[tactic(auto, unfolding(market::specs::CaseCheck::counts_right))]
 pub fn counts_right(n: Counts) -> bool
     ensures { result ≡ counts_right n.resources n.zones n.flowgates }
 {
-    count_right(n.resources, 1, MOST_RESOURCES)
-        && count_right(n.zones, 1, MOST_ZONES)
-        && count_right(n.flowgates, 0, MOST_FLOWGATES)
+    (1..=MOST_RESOURCES).contains(&n.resources)
+        && (1..=MOST_ZONES).contains(&n.zones)
+        && (0..=MOST_FLOWGATES).contains(&n.flowgates)
 }
 
 fn size_right(b: &[u8], n: Counts) -> bool
     requires { CountsWithin n.resources n.zones n.flowgates }
     ensures { result ≡ (length b.now == case_size n.resources n.zones n.flowgates) }
 {
-    b.len() == market::case_size(n.resources, n.zones, n.flowgates)
+    b.len() == market::case_size(n)
 }
 
 // ---- the stages
@@ -266,49 +224,48 @@ fn shape_stage(b: &[u8]) -> Result<Counts, Refusal>
     Ok(n)
 }
 
-// 5 to 7, one after the other.
+// 5 to 7, one after the other, of a case that counts n.
 #[tactic(auto, unfolding(market::specs::Refusals::first_of))]
-fn grounds_stage(b: &[u8], n: Counts) -> Result<Counts, Refusal>
-    requires { CaseBytes b.now n.resources n.zones n.flowgates }
-    ensures { result ≡ answered n (first_of (field_grounds b.now)) }
+fn grounds_stage(case: &SizedCase<'_>, n: Counts) -> Result<Counts, Refusal>
+    ensures { result ≡ answered n (first_of (field_grounds case.now.bytes.now)) }
 {
-    if !case_ranges::fields_in_range(b, n) {
+    if !case_ranges::fields_in_range(case) {
         return Err(Refusal::FieldRange);
     }
-    if !steps_right(b, n) {
+    if !steps_right(case) {
         return Err(Refusal::StepRule);
     }
-    if !limits_ordered(b, n) {
+    if !limits_ordered(case) {
         return Err(Refusal::LimitPair);
     }
     Ok(n)
 }
 
-// 5 to 7 at once. True says that all pass; false says nothing: the stages above then find the ground. With `&&` in place of the ways
+// 5 to 7 at once. True says that all pass; false says nothing: `grounds_stage` then finds the ground. With `&&` in place of the ways
 // out it is no plainer: its proof then takes each branch by itself, since a test that is true is all that says something.
-fn sound(b: &[u8], n: Counts) -> bool
-    requires { CaseBytes b.now n.resources n.zones n.flowgates }
-    ensures { result ≡ true → SoundCase (case_of b.now) }
+fn sound(case: &SizedCase<'_>) -> bool
+    ensures { result ≡ true → SoundCase (case_in case.now) }
 {
-    if !case_ranges::at_most(b, 8, 128000000) {
+    let head = case.head();
+    if !case_ranges::at_most(case.bytes, 8, 128000000) {
         return false;
     }
-    if !case_ranges::reserves_in_range(b) {
+    if !case_ranges::reserves_in_range(&head) {
         return false;
     }
-    if !case_ranges::curves_in_range(b) {
+    if !case_ranges::curves_in_range(&head) {
         return false;
     }
-    if !curves_right(b) {
+    if !curves_right(&head) {
         return false;
     }
-    if !case_ranges::zones_in_range(b, n.zones) {
+    if !case_ranges::zones_in_range(case.bytes, case.zones) {
         return false;
     }
-    if !case_soundness::resources_sound(b, n.resources, n.zones) {
+    if !case_soundness::resources_sound(case.bytes, case.resources, case.zones) {
         return false;
     }
-    case_ranges::flowgates_in_range(b, n.resources, n.zones, n.flowgates)
+    case_ranges::flowgates_in_range(case)
 }
 
 // 1 to 7: the counts of a valid case, or the first ground that holds.
@@ -320,10 +277,11 @@ pub fn case_stage(b: &[u8]) -> Result<Counts, Refusal>
     let Ok(n) = shape else {
         return shape;
     };
-    if sound(b, n) {
+    let case = SizedCase::new(b, n);
+    if sound(&case) {
         return shape;
     }
-    grounds_stage(b, n)
+    grounds_stage(&case, n)
 }
 
 #[tactic(auto, unfolding(market::specs::Outcome::case_answer))]

@@ -12,7 +12,12 @@ use borrow.Author.Tests.{lt-ltb, le-ltb, le-leb, lt-leb, eq-eqb, ne_eqb}
 use Rattle.arith.proofs.Parts.{plus_part, minus_part, le_in, le_out, plus_part-neg, minus_part-neg, add_fact, abs_parts, part}
 use Rattle.arith.proofs.AllTests.{and_true}
 use Rattle.market.specs.Bytes.{signed, within_ℤ, either_way}
-use Rattle.case_ranges.specs.Pieces.{Halved}
+
+-- n is a number in two's complement of a width whose half range is `half`, and most lies below that half
+pub record Halved (n half most : ℕ) : Type 0 where
+  pub number : n < half + half
+  pub largest : most < half
+  pub width : half ≤ 2147483648
 
 -- by the absolute value
 either_abs : (m : ℕ) (z : ℤ) → either_way m z ≡ leb (nat_abs z) m

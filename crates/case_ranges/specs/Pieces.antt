@@ -1,18 +1,13 @@
 -- Ground 5 piece by piece, as the code tests it: parts of `resource_in_range` and `fields_in_range` of market's CaseCheck, and what
 -- the tests ask of the places that they are given.
-use Rattle.std.specs.Prelude.{Bool, ◌&&◌, List, ◌≡◌, ℕ, ◌+◌, ◌*◌, ◌<◌, ◌≤◌}
+use Rattle.std.specs.Prelude.{Bool, ◌&&◌, List, ◌≡◌, ℕ, ◌+◌, ◌*◌}
 use Rattle.arith.specs.Sums.{upto, all}
 use Rattle.market.specs.Bytes.{u8_at, u32_at, i16_at, i32_at, within, either_way}
-use Rattle.market.specs.Case.{Case, Resource, Curve, curves, Reserve, curve_steps}
-use Rattle.market.specs.CaseFile.{pair_place, share_order, resource_size, flowgate_head_size, factor_size, zone_place}
+use Rattle.market.specs.Case.{Case, Resource, curves, curve_steps}
+use Rattle.market.specs.declared.Curve.{Curve}
+use Rattle.market.specs.CaseFile.{resource_size, flowgate_head_size, factor_size, zone_place}
 use Rattle.market.specs.CaseCheck.{resource_in_range}
 use Rattle.wire.specs.Within.{Within}
-
--- n is a number in two's complement of a width whose half range is `half`, and most lies below that half
-pub record Halved (n half most : ℕ) : Type 0 where
-  pub number : n < half + half
-  pub largest : most < half
-  pub width : half ≤ 2147483648
 
 -- the n-th 32-bit number from a place on
 abbrev pub number_at_most : ℕ → List ℕ → ℕ → ℕ → Bool
@@ -41,12 +36,6 @@ abbrev pub resource_numbered_in_range : Case → ℕ → Bool
 resource_numbered_in_range c i = resource_in_range c.zones (c.resource i)
 
 -- ---- where they stand
--- the figures of a reserve: multiplier and minutes, share, requirement
-pub record ReserveAt (reserve : Reserve) (pair share requirement : ℕ) : Type 0 where
-  pub paired : pair ≡ pair_place reserve
-  pub shared : share ≡ 24 + share_order reserve * 2
-  pub required : requirement ≡ 30 + share_order reserve * 4
-
 -- so many resources lie within a file that counts so many zones
 abbrev pub ResourcesIn : List ℕ → ℕ → ℕ → Type 0
 ResourcesIn b resources zones = (zones ≡ u8_at b 6) × Within b (zone_place zones) (resources * resource_size)

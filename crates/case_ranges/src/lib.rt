@@ -1,45 +1,30 @@
 // Ground 5 of the case check: every field of a case file within its range (01, 'The case file').
-// Each function tests some fields; all but one end at the first that is out of range. They ask that these fields lie within the
-// file; `fields_in_range` asks that the file is past refusals 1 to 4. Those of one resource or one flowgate are given its place.
+// Each function tests some fields; all but one end at the first that is out of range. They take what holds these fields: a resource's
+// bytes, the head, a case past refusals 1 to 4, or bytes of which they ask that the fields lie within.
 #![tactic(auto)]
 
-ghost use Rattle.std.specs.Prelude.{◌≡◌, ◌+◌, ◌*◌, ◌<◌, length};
+ghost use Rattle.std.specs.Prelude.{◌≡◌, ◌+◌, ◌*◌, ◌<◌, ◌≤◌};
 ghost use Rattle.arith.specs.Sums.{upto, all};
-ghost use Rattle.market.specs.Bytes.{u8_at, u16_at, u32_at, i32_at, signed, within, either_way};
-ghost use Rattle.market.specs.Case.{Reserve, reserves, curves, curve_numbered, curve_steps, energy_steps};
-ghost use Rattle.market.specs.CaseFile.{head_size, zone_size, resource_size, flowgate_size, flowgate_head_size, factor_size, case_of, resource_at};
+ghost use Rattle.market.specs.Bytes.{u8_at, u32_at, i32_at, within, either_way};
+ghost use Rattle.market.specs.Case.{reserves, curves, curve_steps, energy_steps};
+ghost use Rattle.market.specs.CaseFile.{head_size, zone_size, resource_size, flowgate_size, flowgate_head_size, factor_size, case_of};
 ghost use Rattle.market.specs.CaseCheck.{powers, resource_in_range, reserve_in_range, flowgate_in_range, fields_in_range};
 ghost use Rattle.wire.specs.Within.{Within};
-ghost use Rattle.wire.specs.CaseBytes.{CaseBytes};
-ghost use Rattle.case_ranges.specs.Pieces.{Halved, number_at_most, state_in_range, offer_step_in_range, curve_step_in_range, curve_in_range, zone_in_range, resource_numbered_in_range, ReserveAt, ResourcesIn, factor_in_range, flowgate_in_range_at};
+ghost use Rattle.wire.specs.CaseParts.{head_of, figures_of};
+ghost use Rattle.case_reader.specs.Reader.{case_in};
+ghost use Rattle.case_ranges.specs.Pieces.{number_at_most, state_in_range, offer_step_in_range, curve_step_in_range, curve_in_range, zone_in_range, resource_numbered_in_range, factor_in_range, flowgate_in_range_at};
 
+use case_reader::SizedCase;
 use market::{
-    CURVE_PRICES, CURVE_SIZE, CURVE_WIDTHS, Counts, FACTOR_SIZE, FLOWGATE_HEAD_SIZE, HEAD_SIZE,
-    OFFER_PRICES, OFFER_WIDTHS, RESOURCE_SIZE, STEP_SIZE, Status, ZONE_SIZE,
+    CURVE_STEPS, Curve, ENERGY_STEPS, FACTOR_SIZE, FLOWGATE_HEAD_SIZE, HEAD_SIZE, Reserve, Status,
+    ZONE_SIZE,
 };
+use wire::{CaseHead, ResourceBytes};
 
-// A number in two's complement, of a width whose half range is `half`, is at most so much either way.
-fn either_way(n: u32, half: u32, most: u32) -> bool
-    requires { Halved n half most }
-    ensures { result ≡ either_way most (signed half n) }
+fn either_way(v: i64, most: u32) -> bool
+    ensures { result ≡ either_way most v }
 {
-    n <= most || n > half - 1 + (half - most)
-}
-
-fn byte_between(b: &[u8], at: usize, low: usize, high: usize) -> bool
-    requires { Within b.now at 1 }
-    ensures { result ≡ within low high (u8_at b.now at) }
-{
-    let x = wire::u8_at(b, at) as usize;
-    low <= x && x <= high
-}
-
-fn short_between(b: &[u8], at: usize, low: u32, high: u32) -> bool
-    requires { Within b.now at 2 }
-    ensures { result ≡ within low high (u16_at b.now at) }
-{
-    let x = wire::u16_at(b, at);
-    low <= x && x <= high
+    v.unsigned_abs() <= u64::from(most)
 }
 
 pub fn at_most(b: &[u8], at: usize, most: u32) -> bool
@@ -50,10 +35,10 @@ pub fn at_most(b: &[u8], at: usize, most: u32) -> bool
 }
 
 pub fn word_either_way(b: &[u8], at: usize, most: u32) -> bool
-    requires { (Within b.now at 4) × (most < 2147483648) }
+    requires { Within b.now at 4 }
     ensures { result ≡ either_way most (i32_at b.now at) }
 {
-    either_way(wire::u32_at(b, at), 2147483648, most)
+    either_way(wire::i32_at(b, at), most)
 }
 
 // The n numbers from a place on.
@@ -64,117 +49,123 @@ pub fn all_at_most(b: &[u8], at: usize, n: usize, most: u32) -> bool
     (0..n).all(|k| at_most(b, at + k * 4, most))
 }
 
-// ---- a resource, whose 154 bytes stand at a place
-#[tactic(auto, unfolding(market::specs::CaseFile::resource_at))]
-pub fn state_in_range(b: &[u8], at: usize, zones: usize) -> bool
-    requires { Within b.now at resource_size }
-    ensures { result ≡ state_in_range zones (resource_at b.now at) }
+// ---- a resource
+// The n numbers from a place of its record on.
+pub fn run_at_most(resource: &ResourceBytes<'_>, place: usize, n: usize, most: u32) -> bool
+    requires { place + n * 4 ≤ resource_size }
+    ensures { result ≡ all (number_at_most most resource.now.bytes.now (resource.now.at + place)) (upto n) }
 {
-    byte_between(b, at, 1, 3)
-        && byte_between(b, at + 1, 1, zones)
-        && byte_between(b, at + 2, 0, 1)
-        && Status::try_from(wire::u8_at(b, at + 3)).is_ok()
-        && word_either_way(b, at + 6, 2000000)
+    all_at_most(resource.bytes, resource.at + place, n, most)
+}
+
+fn byte_between(resource: &ResourceBytes<'_>, place: usize, low: usize, high: usize) -> bool
+    requires { place < resource_size }
+    ensures { result ≡ within low high (u8_at resource.now.bytes.now (resource.now.at + place)) }
+{
+    (low..=high).contains(&usize::from(resource.u8(place)))
+}
+
+#[tactic(auto, unfolding(market::specs::CaseFile::resource_at))]
+pub fn state_in_range(resource: &ResourceBytes<'_>, zones: usize) -> bool
+    ensures { result ≡ state_in_range zones (figures_of resource.now) }
+{
+    byte_between(resource, 0, 1, 3)
+        && byte_between(resource, 1, 1, zones)
+        && byte_between(resource, 2, 0, 1)
+        && Status::try_from(resource.u8(3)).is_ok()
+        && either_way(resource.i32(6), 2000000)
 }
 
 // The three pairs of limits; initial energy, the two off-line limits, self-schedule.
 #[tactic(auto, using(crate::proofs::Places::powers_runs))]
-fn powers_in_range(b: &[u8], at: usize) -> bool
-    requires { Within b.now at resource_size }
-    ensures { result ≡ all (within 0 2000000) (powers (resource_at b.now at)) }
+fn powers_in_range(resource: &ResourceBytes<'_>) -> bool
+    ensures { result ≡ all (within 0 2000000) (powers (figures_of resource.now)) }
 {
-    all_at_most(b, at + 10, 6, 2000000) && all_at_most(b, at + 46, 4, 2000000)
+    run_at_most(resource, 10, 6, 2000000) && run_at_most(resource, 46, 4, 2000000)
 }
 
-#[tactic(auto, unfolding(market::specs::CaseFile::resource_at))]
-fn offer_step_in_range(b: &[u8], at: usize, j: usize) -> bool
-    requires { (Within b.now at resource_size) × (j < energy_steps) }
-    ensures { result ≡ offer_step_in_range (resource_at b.now at) j }
+fn offer_step_in_range(resource: &ResourceBytes<'_>, j: usize) -> bool
+    requires { j < energy_steps }
+    ensures { result ≡ offer_step_in_range (figures_of resource.now) j }
 {
-    at_most(b, at + OFFER_WIDTHS + j * STEP_SIZE, 2000000)
-        && word_either_way(b, at + OFFER_PRICES + j * STEP_SIZE, 400000)
+    let step = resource.step(j);
+    step.width <= 2000000 && either_way(i64::from(step.price.cast_signed()), 400000)
 }
 
-fn offer_in_range(b: &[u8], at: usize) -> bool
-    requires { Within b.now at resource_size }
-    ensures { result ≡ all (offer_step_in_range (resource_at b.now at)) (upto energy_steps) }
+fn offer_in_range(resource: &ResourceBytes<'_>) -> bool
+    ensures { result ≡ all (offer_step_in_range (figures_of resource.now)) (upto energy_steps) }
 {
-    (0..10).all(|j| offer_step_in_range(b, at, j))
+    (0..ENERGY_STEPS).all(|j| offer_step_in_range(resource, j))
 }
 
+// `case_soundness::resource_sound` is no twin: it tests 5 to 7 together, and true is all that it says.
 #[tactic(auto, using(crate::proofs::Places::ramps_run, crate::proofs::Places::prices_run), unfolding(market::specs::CaseCheck::resource_in_range))]
-fn resource_in_range(b: &[u8], at: usize, zones: usize) -> bool
-    requires { Within b.now at resource_size }
-    ensures { result ≡ resource_in_range zones (resource_at b.now at) }
+fn resource_in_range(resource: &ResourceBytes<'_>, zones: usize) -> bool
+    ensures { result ≡ resource_in_range zones (figures_of resource.now) }
 {
     // ramps stand at 34, reserve prices at 62
-    state_in_range(b, at, zones)
-        && powers_in_range(b, at)
-        && all_at_most(b, at + 34, 3, 400000)
-        && all_at_most(b, at + 62, 3, 400000)
-        && offer_in_range(b, at)
+    state_in_range(resource, zones)
+        && powers_in_range(resource)
+        && run_at_most(resource, 34, 3, 400000)
+        && run_at_most(resource, 62, 3, 400000)
+        && offer_in_range(resource)
 }
 
-fn resources_in_range(b: &[u8], resources: usize, zones: usize) -> bool
-    requires { ResourcesIn b.now resources zones }
-    ensures { result ≡ all (resource_numbered_in_range (case_of b.now)) (upto resources) }
+fn resources_in_range(case: &SizedCase<'_>) -> bool
+    ensures { result ≡ all (resource_numbered_in_range (case_in case.now)) (upto case.now.resources) }
 {
-    let first = HEAD_SIZE + zones * ZONE_SIZE;
-    (0..resources).all(|i| resource_in_range(b, first + i * RESOURCE_SIZE, zones))
+    (0..case.resources).all(|i| resource_in_range(&case.resource_bytes(i), case.zones))
 }
 
 // ---- market-wide figures
-// Multiplier and minutes of a reserve stand at `pair`, its largest share and its market requirement at their own places.
-#[tactic(auto, unfolding(market::specs::CaseCheck::reserve_in_range, market::specs::CaseFile::case_of))]
-fn reserve_in_range(b: &[u8], pair: usize, share: usize, requirement: usize) -> bool
-    requires { (Within b.now pair 4) × (Within b.now share 2) × (Within b.now requirement 4) }
-    ensures { (p : Reserve) → ReserveAt p pair share requirement → result ≡ reserve_in_range (case_of b.now) p }
+// Multiplier, minutes, largest share and market requirement of a reserve.
+#[tactic(auto, using(case_records::proofs::HeadPlaces::pair_in_head, case_records::proofs::HeadPlaces::order_of_three), unfolding(market::specs::CaseCheck::reserve_in_range, market::specs::CaseFile::case_of))]
+fn reserve_in_range(head: &CaseHead<'_>, reserve: Reserve) -> bool
+    ensures { result ≡ reserve_in_range (head_of head.now) reserve }
 {
-    short_between(b, pair, 1, 5000)
-        && short_between(b, pair + 2, 1, 60)
-        && short_between(b, share, 0, 1000)
-        && at_most(b, requirement, 8000000)
+    let b = head.bytes;
+    let pair = reserve.pair_place();
+    let n = reserve.share_order();
+    (1..=5000).contains(&wire::u16_at(b, pair))
+        && (1..=60).contains(&wire::u16_at(b, pair + 2))
+        && (0..=1000).contains(&wire::u16_at(b, 24 + n * 2))
+        && at_most(b, 30 + n * 4, 8000000)
 }
 
-// Regulating, contingency, short-term.
 #[tactic(auto, unfolding(arith::specs::Sums::all))]
-pub fn reserves_in_range(b: &[u8]) -> bool
-    requires { Within b.now 0 head_size }
-    ensures { result ≡ all (reserve_in_range (case_of b.now)) reserves }
+pub fn reserves_in_range(head: &CaseHead<'_>) -> bool
+    ensures { result ≡ all (reserve_in_range (head_of head.now)) reserves }
 {
-    reserve_in_range(b, 16, 24, 30)
-        && reserve_in_range(b, 12, 26, 34)
-        && reserve_in_range(b, 20, 28, 38)
+    reserve_in_range(head, Reserve::Regulating)
+        && reserve_in_range(head, Reserve::Contingency)
+        && reserve_in_range(head, Reserve::ShortTerm)
 }
 
-// Of the curve of this number.
-#[tactic(auto, using(market::proofs::CurveNumbers::number_is), unfolding(market::specs::CaseFile::case_of))]
-fn curve_step_in_range(b: &[u8], curve: usize, j: usize) -> bool
-    requires { (Within b.now 0 head_size) × (curve < length curves) × (j < curve_steps) }
-    ensures { result ≡ curve_step_in_range (case_of b.now) (curve_numbered curve) j }
+// This and the next stand beside `offer_step_in_range` and `offer_in_range`: another part of the file, a larger width, a price without a
+// sign, fewer steps. What both share is `step`.
+fn curve_step_in_range(head: &CaseHead<'_>, curve: Curve, j: usize) -> bool
+    requires { j < curve_steps }
+    ensures { result ≡ curve_step_in_range (head_of head.now) curve j }
 {
-    at_most(
-        b,
-        CURVE_WIDTHS + curve * CURVE_SIZE + j * STEP_SIZE,
-        8000000,
-    ) && at_most(b, CURVE_PRICES + curve * CURVE_SIZE + j * STEP_SIZE, 400000)
+    let step = head.step(curve, j);
+    step.width <= 8000000 && step.price <= 400000
 }
 
-fn curve_in_range(b: &[u8], curve: usize) -> bool
-    requires { (Within b.now 0 head_size) × (curve < length curves) }
-    ensures { result ≡ curve_in_range (case_of b.now) (curve_numbered curve) }
+fn curve_in_range(head: &CaseHead<'_>, curve: Curve) -> bool
+    ensures { result ≡ curve_in_range (head_of head.now) curve }
 {
-    (0..4).all(|j| curve_step_in_range(b, curve, j))
+    (0..CURVE_STEPS).all(|j| curve_step_in_range(head, curve, j))
 }
 
-pub fn curves_in_range(b: &[u8]) -> bool
-    requires { Within b.now 0 head_size }
-    ensures { result ≡ all (curve_in_range (case_of b.now)) curves }
+#[tactic(auto, unfolding(arith::specs::Sums::all))]
+pub fn curves_in_range(head: &CaseHead<'_>) -> bool
+    ensures { result ≡ all (curve_in_range (head_of head.now)) curves }
 {
-    (0..4).all(|curve| curve_in_range(b, curve))
+    Curve::ALL.iter().all(|curve| curve_in_range(head, *curve))
 }
 
 // ---- zones and flowgates
+// Of bytes and a count, since a reader asks for more than that the zones are there.
 pub fn zones_in_range(b: &[u8], zones: usize) -> bool
     requires { Within b.now head_size (zones * zone_size) }
     ensures { result ≡ all (zone_in_range (case_of b.now)) (upto zones) }
@@ -187,8 +178,7 @@ fn factor_in_range(b: &[u8], at: usize, i: usize) -> bool
     ensures { result ≡ factor_in_range b.now at i }
 {
     either_way(
-        wire::u16_at(b, at + FLOWGATE_HEAD_SIZE + i * FACTOR_SIZE),
-        32768,
+        wire::i16_at(b, at + FLOWGATE_HEAD_SIZE + i * FACTOR_SIZE),
         1000,
     )
 }
@@ -208,11 +198,13 @@ fn flowgate_in_range(b: &[u8], at: usize, resources: usize) -> bool
     word_either_way(b, at, 20000000) && factors_in_range(b, at, resources)
 }
 
-pub fn flowgates_in_range(b: &[u8], resources: usize, zones: usize, flowgates: usize) -> bool
-    requires { CaseBytes b.now resources zones flowgates }
-    ensures { result ≡ all (flowgate_in_range (case_of b.now)) (upto flowgates) }
+pub fn flowgates_in_range(case: &SizedCase<'_>) -> bool
+    ensures { result ≡ all (flowgate_in_range (case_in case.now)) (upto case.now.flowgates) }
 {
-    (0..flowgates).all(|f| flowgate_in_range(
+    let b = case.bytes;
+    let resources = case.resources;
+    let zones = case.zones;
+    (0..case.flowgates).all(|f| flowgate_in_range(
         b,
         market::flowgate_place(resources, zones, f),
         resources,
@@ -221,14 +213,14 @@ pub fn flowgates_in_range(b: &[u8], resources: usize, zones: usize, flowgates: u
 
 // ---- the whole file
 #[tactic(auto, unfolding(market::specs::CaseCheck::fields_in_range, market::specs::CaseFile::case_of))]
-pub fn fields_in_range(b: &[u8], n: Counts) -> bool
-    requires { CaseBytes b.now n.resources n.zones n.flowgates }
-    ensures { result ≡ fields_in_range (case_of b.now) }
+pub fn fields_in_range(case: &SizedCase<'_>) -> bool
+    ensures { result ≡ fields_in_range (case_in case.now) }
 {
-    at_most(b, 8, 128000000)
-        && reserves_in_range(b)
-        && curves_in_range(b)
-        && zones_in_range(b, n.zones)
-        && resources_in_range(b, n.resources, n.zones)
-        && flowgates_in_range(b, n.resources, n.zones, n.flowgates)
+    let head = case.head();
+    at_most(case.bytes, 8, 128000000)
+        && reserves_in_range(&head)
+        && curves_in_range(&head)
+        && zones_in_range(case.bytes, case.zones)
+        && resources_in_range(case)
+        && flowgates_in_range(case)
 }

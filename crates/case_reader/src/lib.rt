@@ -1,16 +1,20 @@
 // The one reader that records are read out of a case through: the lent bytes of the case, with its three counts.
-// Each method asks nothing but an index in range, and calls the function of `case_records` that does the work.
+// Each method asks nothing but an index in range. All but `head` call the function of `case_records` that does the work. The counts are
+// fields of their own, and not one `Counts`, since most contracts name one of them.
 #![tactic(auto)]
 
-ghost use Rattle.std.specs.Prelude.{◌≡◌, ◌<◌, length};
-ghost use Rattle.market.specs.Case.{curves, curve_numbered};
+ghost use Rattle.std.specs.Prelude.{◌≡◌, ◌<◌};
+ghost use Rattle.market.specs.CaseFile.{resource_place};
 ghost use Rattle.market.specs.Records.{kw, shift_factor, power, record_of, offer_steps_of, terms_of, curve_steps_of, zone_requirements_of};
 ghost use Rattle.case_records.specs.Places.{CaseBytes};
 
-use market::{CurveAmounts, CurveSteps, Kw, OfferSteps, Resource, ShiftFactor, Terms};
+use market::{
+    Counts, Curve, CurveAmounts, CurveSteps, Kw, OfferSteps, Resource, ShiftFactor, Terms,
+};
+use wire::{CaseHead, ResourceBytes};
 
 #[derive(Clone, Copy)]
-pub struct CaseReader<'a> {
+pub struct SizedCase<'a> {
     pub bytes: &'a [u8],
     pub resources: usize,
     pub zones: usize,
@@ -18,44 +22,48 @@ pub struct CaseReader<'a> {
     pub ghost whole: { CaseBytes bytes.now resources zones flowgates },
 }
 
-impl<'a> CaseReader<'a> {
+impl<'a> SizedCase<'a> {
     ghost use Rattle.case_reader.specs.Reader.{case_in};
 
-    pub fn new(bytes: &'a [u8], resources: usize, zones: usize, flowgates: usize) -> Self
-        requires { CaseBytes bytes.now resources zones flowgates }
+    pub fn new(bytes: &'a [u8], n: Counts) -> Self
+        requires { CaseBytes bytes.now n.resources n.zones n.flowgates }
         ensures bytes { result.bytes ≡ bytes.entry }
-        ensures resources { result.resources ≡ resources }
-        ensures zones { result.zones ≡ zones }
-        ensures flowgates { result.flowgates ≡ flowgates }
+        ensures resources { result.resources ≡ n.resources }
+        ensures zones { result.zones ≡ n.zones }
+        ensures flowgates { result.flowgates ≡ n.flowgates }
     {
-        CaseReader {
+        SizedCase {
             bytes,
-            resources,
-            zones,
-            flowgates,
+            resources: n.resources,
+            zones: n.zones,
+            flowgates: n.flowgates,
         }
     }
 
     // ---- the head of a case, at places that no count moves: demand, reserve terms, demand curves
 
+    pub fn head(&self) -> CaseHead<'a>
+        ensures { result.bytes ≡ self.now.bytes }
+    {
+        CaseHead::new(self.bytes)
+    }
+
     pub fn demand(&self) -> Kw
         ensures { result ≡ power (case_in self.now).demand }
     {
-        case_records::demand(self.bytes)
+        case_records::demand(&self.head())
     }
 
     pub fn terms(&self) -> Terms
         ensures { result ≡ terms_of (case_in self.now) }
     {
-        case_records::terms(self.bytes)
+        case_records::terms(&self.head())
     }
 
-    // The curve of number k.
-    pub fn curve(&self, k: usize) -> CurveSteps
-        requires { k < length curves }
-        ensures { result ≡ curve_steps_of (case_in self.now) (curve_numbered k) }
+    pub fn curve(&self, curve: Curve) -> CurveSteps
+        ensures { result ≡ curve_steps_of (case_in self.now) curve }
     {
-        case_records::curve_at(self.bytes, k)
+        case_records::curve_at(&self.head(), curve)
     }
 
     // ---- zones, counted from 0
@@ -68,6 +76,15 @@ impl<'a> CaseReader<'a> {
     }
 
     // ---- resources, counted from 0
+
+    // Where resource i stands, for what reads single figures of it.
+    pub fn resource_bytes(&self, i: usize) -> ResourceBytes<'a>
+        requires { i < self.now.resources }
+        ensures bytes { result.bytes ≡ self.now.bytes }
+        ensures at { result.at ≡ resource_place self.now.zones i }
+    {
+        case_records::resource_bytes(self.bytes, self.zones, i)
+    }
 
     pub fn resource(&self, i: usize) -> Resource
         requires { i < self.now.resources }

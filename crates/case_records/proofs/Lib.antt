@@ -1,2 +1,3 @@
+pub mod HeadPlaces
 pub mod Places
 pub mod Ranged

@@ -5,17 +5,15 @@ use Prim.Native.Nat.{ℕ, ◌<◌}
 use native.Mathlib.Omega.{arith}
 use native.Mathlib.Nat.{mul-le-mul_right}
 use Rattle.market.specs.Bytes.{u8_at}
-use Rattle.market.specs.CaseFile.{case_of, flowgate_size}
+use Rattle.market.specs.CaseFile.{case_of, head_size, flowgate_size}
 use Rattle.market.specs.Outcome.{Valid}
+use Rattle.wire.specs.Within.{Within}
 use Rattle.wire.proofs.WholeCase.{valid_case}
-use Rattle.case_records.specs.Places.{CaseBytes, HeadIn, CurveIn, ZoneIn, ResourceIn, FlowgateIn, FactorIn}
+use Rattle.case_records.specs.Places.{CaseBytes, ZoneIn, ResourceIn, FlowgateIn, FactorIn}
 
 module _ {b : List ℕ} {r z f : ℕ} (whole : CaseBytes b r z f) where
-  pub head_in : HeadIn b
+  pub head_in : Within b 0 head_size
   head_in = omega arith
-
-  pub curve_in : (k : ℕ) → k < 4 → CurveIn b k
-  curve_in k h = (head_in, h)
 
   pub zone_in : (y : ℕ) → y < z → ZoneIn b y
   zone_in y h = omega arith

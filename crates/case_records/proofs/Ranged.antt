@@ -4,7 +4,10 @@ use mathlib.Core.List.{List}
 use Prim.Native.Nat.{ℕ, zero, suc, ◌<◌, ◌≤◌}
 use native.Mathlib.Omega.{arith}
 use lib.IntN.{pos}
-use Rattle.market.specs.Case.{Case, Resource, Curve, Reserve, operating, regulating_plus_spinning, regulating, short_term}
+use Rattle.market.specs.Case.{Case, Resource}
+use Rattle.market.specs.declared.Curve.{Curve}
+use Rattle.market.specs.declared.Curve.TheVariants.{Operating as operating, RegulatingPlusSpinning as regulating_plus_spinning, Regulating as regulating, ShortTerm as short_term}
+use Rattle.market.specs.declared.Reserve.{Reserve}
 use Rattle.market.specs.CaseFile.{case_of}
 use Rattle.market.specs.Records.{offer_step_of, offer_steps_of, curve_step_of, curve_steps_of, state_of, output_limits_of, ramps_of, other_powers_of, reserve_offers_of, record_of, reserve_terms_of, zone_requirements_of}
 use Rattle.market.specs.Outcome.{Valid}

@@ -1,18 +1,10 @@
 -- What a function of this crate asks of the bytes: that those it reads are there, and that the counts it is passed are the file's
 -- (01, 'The case file'). `CaseBytes`, of a whole case, gives each of these (proofs/Places.antt).
-use Rattle.std.specs.Prelude.{◌≡◌, List, ℕ, ◌<◌, length}
+use Rattle.std.specs.Prelude.{◌≡◌, List, ℕ, ◌<◌}
 use Rattle.wire.specs.Within.{Within}
 pub use Rattle.wire.specs.CaseBytes.{CaseBytes}
 use Rattle.market.specs.Bytes.{u8_at}
-use Rattle.market.specs.Case.{curves}
-use Rattle.market.specs.CaseFile.{head_size, zone_size, resource_size, flowgate_size, zone_place, resource_place, flowgate_place}
-
--- counts, demand, reserve terms and curves
-abbrev pub HeadIn : List ℕ → Type 0
-HeadIn b = Within b 0 head_size
-
-abbrev pub CurveIn : List ℕ → ℕ → Type 0
-CurveIn b k = HeadIn b × (k < length curves)
+use Rattle.market.specs.CaseFile.{zone_size, resource_size, flowgate_size, zone_place, resource_place, flowgate_place}
 
 abbrev pub ZoneIn : List ℕ → ℕ → Type 0
 ZoneIn b z = Within b (zone_place z) zone_size

@@ -13,7 +13,8 @@ use Rattle.market.specs.declared.PerCurve.{PerCurve}
 use Rattle.market.specs.declared.Kw.{Kw}
 use Rattle.market.specs.declared.Step.{Step}
 
--- not negative, and at most so much
+-- Not negative, and at most so much. A clause and no type says it: the contracts that ask it have five different maxima, and a
+-- figure would change its type on its way from one to the next (what `limits::ramped` gives is what `limits::portion` takes).
 pub record UpTo (v : ℤ) (most : ℕ) : Type 0 where
   pub natural : v ≡ pos (nat_abs v)
   pub at_most : nat_abs v ≤ most
@@ -52,11 +53,12 @@ pub record RangedOffers (offers : ReserveOffers) : Type 0 where
   pub contingency : UpTo offers.contingency.0 400000
   pub off_line_short_term : UpTo offers.off_line_short_term.0 400000
 
--- energy steps; their prices have a sign
+-- energy steps; their prices have a sign. `limits::OfferInRange` carries it
 pub record RangedSteps (offered : List Step) : Type 0 where
   pub width : (j : ℕ) → j < energy_steps → UpTo (offer_step offered j).width.0 2000000
   pub price : (j : ℕ) → j < energy_steps → nat_abs (offer_step offered j).price.0 ≤ 400000
 
+-- `limits::ResourceInRange` carries it
 pub record Ranged (r : Resource) : Type 0 where
   pub output : nat_abs r.state.output.0 ≤ 2000000
   pub limits : RangedLimits r.limits
@@ -64,6 +66,7 @@ pub record Ranged (r : Resource) : Type 0 where
   pub other_powers : RangedOtherPowers r.other_powers
   pub offers : RangedOffers r.offers
 
+-- `limits::ReserveInRange` carries it
 pub record RangedTerms (terms : ReserveTerms) : Type 0 where
   pub multiplier_from : 1 ≤ terms.multiplier.0
   pub multiplier_to : terms.multiplier.0 ≤ 5000
@@ -72,6 +75,7 @@ pub record RangedTerms (terms : ReserveTerms) : Type 0 where
   pub share_to : terms.share.0 ≤ 1000
   pub requirement : UpTo terms.requirement.0 8000000
 
+-- `limits::CurveInRange` carries it
 pub record RangedCurve (curve : List Step) : Type 0 where
   pub width : (j : ℕ) → j < curve_steps → UpTo (curve_step curve j).width.0 8000000
   pub price : (j : ℕ) → j < curve_steps → UpTo (curve_step curve j).price.0 400000

@@ -8,8 +8,7 @@ use Rattle.arith.proofs.Ranges.{all_below}
 use Rattle.market.specs.Bytes.{signed, within, either_way}
 use Rattle.market.specs.Case.{width_of}
 use Rattle.market.specs.CaseCheck.{steps_follow, steps_right, never_falls}
-use Rattle.case_ranges.specs.Pieces.{Halved}
-use Rattle.case_ranges.proofs.Halves.{at_bottom, at_top, zero_signed, shifted_order}
+use Rattle.case_ranges.proofs.Halves.{Halved, at_bottom, at_top, zero_signed, shifted_order}
 use Rattle.case_ranges.proofs.Laws.{from_zero}
 use Rattle.case_soundness.specs.Ranks.{moved_of, rank_of}
 use Rattle.case_soundness.proofs.Tests.{both}

@@ -13,21 +13,20 @@ ghost use Rattle.market.specs.Rows.{rows};
 ghost use Rattle.market.specs.Outcome.{form_grounds, price_right};
 ghost use Rattle.wire.specs.Within.{Within};
 ghost use Rattle.market.specs.Refusals.{answered};
-ghost use Rattle.certificate_records.specs.CertificateBytes.{CertificateBytes};
+ghost use Rattle.certificate_records.specs.Reader.{counts_of, certificate_in};
 ghost use Rattle.certificate_form.specs.Form.{counts_are, size_is};
 ghost use Rattle.certificate_form.specs.PricePlaces.{zone_priced, limits_priced};
 
+use certificate_records::SizedCertificate;
 use market::{CERTIFICATE_HEAD_SIZE, Counts, Refusal, ZONE_PRICES_SIZE};
 
 // ---- 8 to 11: the file's form
-#[tactic(auto, unfolding(crate::specs::Form::counts_are))]
+#[tactic(auto, unfolding(crate::specs::Form::counts_are, market::specs::CaseFile::case_of))]
 fn same_counts(q: &[u8], n: Counts) -> bool
     requires { Within q.now 0 certificate_head_size }
     ensures { result ≡ counts_are q.now n }
 {
-    case_check::count_at(q, 5) == n.resources
-        && case_check::count_at(q, 6) == n.zones
-        && case_check::count_at(q, 7) == n.flowgates
+    case_check::counts_at(q) == n
 }
 
 #[tactic(auto, unfolding(crate::specs::Form::size_is))]
@@ -35,7 +34,7 @@ pub fn size_right(q: &[u8], n: Counts) -> bool
     requires { CountsWithin n.resources n.zones n.flowgates }
     ensures { result ≡ size_is q.now n }
 {
-    q.len() == market::certificate_size(n.resources, n.zones, n.flowgates)
+    q.len() == market::certificate_size(n)
 }
 
 #[tactic(auto, unfolding(market::specs::Refusals::first_of, market::specs::Outcome::form_grounds, market::specs::Outcome::same_counts))]
@@ -69,26 +68,25 @@ fn zones_priced(q: &[u8], zones: usize) -> bool
     })
 }
 
-fn limits_priced(q: &[u8], resources: usize, zones: usize, flowgates: usize) -> bool
-    requires { CertificateBytes q.now resources zones flowgates }
-    ensures { result ≡ all (limits_priced q.now zones flowgates) (upto resources) }
+fn limits_priced(certificate: &SizedCertificate<'_>) -> bool
+    ensures { result ≡ all (limits_priced certificate.now.bytes.now certificate.now.zones certificate.now.flowgates) (upto certificate.now.resources) }
 {
-    (0..resources).all(|i| {
-        let at = market::amounts_place(zones, flowgates, i);
-        case_ranges::all_at_most(q, at + 20, 5, 400000000)
+    (0..certificate.resources).all(|i| {
+        let at = market::amounts_place(certificate.zones, certificate.flowgates, i);
+        case_ranges::all_at_most(certificate.bytes, at + 20, 5, 400000000)
     })
 }
 
 #[tactic(auto, using(crate::proofs::PriceFamilies::prices_by_place))]
-pub fn prices_right(q: &[u8], n: Counts) -> bool
-    requires { CertificateBytes q.now n.resources n.zones n.flowgates }
-    ensures { (c : Case) → n ≡ counts_in c → result ≡ all (price_right (certificate_of q.now)) (rows c) }
+pub fn prices_right(certificate: &SizedCertificate<'_>) -> bool
+    ensures { (c : Case) → counts_of certificate.now ≡ counts_in c → result ≡ all (price_right (certificate_in certificate.now)) (rows c) }
 {
-    let flowgate_prices = CERTIFICATE_HEAD_SIZE + n.zones * ZONE_PRICES_SIZE;
+    let q = certificate.bytes;
+    let flowgate_prices = CERTIFICATE_HEAD_SIZE + certificate.zones * ZONE_PRICES_SIZE;
     // row 1, then the market's, the zones', the flowgates' and the resources' rows
     case_ranges::word_either_way(q, 24, 400000000)
         && case_ranges::all_at_most(q, 28, 4, 400000000)
-        && zones_priced(q, n.zones)
-        && case_ranges::all_at_most(q, flowgate_prices, n.flowgates, 400000)
-        && limits_priced(q, n.resources, n.zones, n.flowgates)
+        && zones_priced(q, certificate.zones)
+        && case_ranges::all_at_most(q, flowgate_prices, certificate.flowgates, 400000)
+        && limits_priced(certificate)
 }

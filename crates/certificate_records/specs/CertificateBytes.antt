@@ -1,10 +1,8 @@
 -- What the readers of a certificate's entries ask of its bytes.
-use Rattle.std.specs.Prelude.{List, ◌≡◌, ℕ, ◌+◌, ◌*◌, length, pos}
-use Rattle.market.specs.Bytes.{u8_at, u32_at}
-use Rattle.market.specs.Case.{Curve, curve_number}
-use Rattle.market.specs.Rows.{Row}
+use Rattle.std.specs.Prelude.{List, ◌≡◌, ℕ, length}
+use Rattle.market.specs.Bytes.{u8_at}
 use Rattle.market.specs.CaseCheck.{CountsWithin}
-use Rattle.market.specs.Certificate.{certificate_size, certificate_of}
+use Rattle.market.specs.Certificate.{certificate_size}
 
 -- r, z and f are the file's counts, within their ranges, and its size is what they need
 pub record CertificateBytes (q : List ℕ) (r z f : ℕ) : Type 0 where
@@ -13,7 +11,3 @@ pub record CertificateBytes (q : List ℕ) (r z f : ℕ) : Type 0 where
   pub flowgates_are : u8_at q 7 ≡ f
   pub counts : CountsWithin r z f
   pub sized : length q ≡ certificate_size r z f
-
--- the prices of the rows that `row` names for each curve stand one behind the other from a place on
-abbrev pub PricesFrom : List ℕ → (Curve → Row) → ℕ → Type 0
-PricesFrom q row at = (k : Curve) → (certificate_of q).price (row k) ≡ pos (u32_at q (at + curve_number k * 4))

@@ -1,22 +1,20 @@
-// The entries of a certificate, read by value: amounts and row prices. Each reader asks for a file of the right size.
+// The entries of a certificate, read by value through one reader: amounts and row prices. The reader's type says that the file has
+// the size that its counts need.
 #![tactic(auto)]
 
 ghost use Rattle.std.specs.Prelude.{◌≡◌, ◌<◌};
-ghost use Rattle.market.specs.Case.{Curve};
-ghost use Rattle.market.specs.Rows.{Row, balance_row, market_row, zone_row, flowgate_row};
-ghost use Rattle.market.specs.Certificate.{certificate_of};
+ghost use Rattle.market.specs.Rows.{balance_row, market_row, zone_row, flowgate_row};
 ghost use Rattle.market.specs.Records.{cents, millicents, amounts_of, limit_prices_of, cleared_of, reserve_prices_of};
-ghost use Rattle.wire.specs.Within.{Within};
-ghost use Rattle.certificate_records.specs.CertificateBytes.{CertificateBytes, PricesFrom};
+ghost use Rattle.certificate_records.specs.CertificateBytes.{CertificateBytes};
 
 use market::{
-    Amounts, CERTIFICATE_HEAD_SIZE, Cents, CurveAmounts, FLOWGATE_PRICE_SIZE, LimitPrices,
+    Amounts, CERTIFICATE_HEAD_SIZE, Cents, Counts, CurveAmounts, FLOWGATE_PRICE_SIZE, LimitPrices,
     Millicents, ReservePrices, ZONE_PRICES_SIZE,
 };
 
-// The lent bytes of a certificate with its three counts.
+// The lent bytes of a certificate with its three counts, fields of their own as in `SizedCase`.
 #[derive(Clone, Copy)]
-pub struct CertificateReader<'a> {
+pub struct SizedCertificate<'a> {
     pub bytes: &'a [u8],
     pub resources: usize,
     pub zones: usize,
@@ -24,21 +22,21 @@ pub struct CertificateReader<'a> {
     pub ghost whole: { CertificateBytes bytes.now resources zones flowgates },
 }
 
-impl<'a> CertificateReader<'a> {
+impl<'a> SizedCertificate<'a> {
     ghost use Rattle.certificate_records.specs.Reader.{certificate_in};
 
-    pub fn new(bytes: &'a [u8], resources: usize, zones: usize, flowgates: usize) -> Self
-        requires { CertificateBytes bytes.now resources zones flowgates }
+    pub fn new(bytes: &'a [u8], n: Counts) -> Self
+        requires { CertificateBytes bytes.now n.resources n.zones n.flowgates }
         ensures bytes { result.bytes ≡ bytes.entry }
-        ensures resources { result.resources ≡ resources }
-        ensures zones { result.zones ≡ zones }
-        ensures flowgates { result.flowgates ≡ flowgates }
+        ensures resources { result.resources ≡ n.resources }
+        ensures zones { result.zones ≡ n.zones }
+        ensures flowgates { result.flowgates ≡ n.flowgates }
     {
-        CertificateReader {
+        SizedCertificate {
             bytes,
-            resources,
-            zones,
-            flowgates,
+            resources: n.resources,
+            zones: n.zones,
+            flowgates: n.flowgates,
         }
     }
 
@@ -79,27 +77,24 @@ impl<'a> CertificateReader<'a> {
     pub fn cleared(&self) -> CurveAmounts
         ensures { result ≡ cleared_of (certificate_in self.now).amount }
     {
-        CurveAmounts {
-            operating: wire::figure_at(self.bytes, 8),
-            regulating_plus_spinning: wire::figure_at(self.bytes, 12),
-            regulating: wire::figure_at(self.bytes, 16),
-            short_term: wire::figure_at(self.bytes, 20),
-        }
+        wire::per_curve_at(self.bytes, 8)
     }
 
     // The prices of the market-wide reserve rows.
+    #[tactic(auto, unfolding(market::specs::Records::reserve_prices_of, market::specs::Certificate::certificate_of, market::specs::Certificate::price_at))]
     pub fn market_prices(&self) -> ReservePrices
         ensures { result ≡ reserve_prices_of (certificate_in self.now).price market_row }
     {
-        reserve_prices_at(self.bytes, 28)
+        wire::per_curve_at(self.bytes, 28)
     }
 
     // The prices of a zone's reserve rows, zones counted from 0.
+    #[tactic(auto, unfolding(market::specs::Records::reserve_prices_of, market::specs::Certificate::certificate_of, market::specs::Certificate::price_at))]
     pub fn zone_prices(&self, zone: usize) -> ReservePrices
         requires { zone < self.now.zones }
         ensures { result ≡ reserve_prices_of (certificate_in self.now).price (zone_row zone) }
     {
-        reserve_prices_at(self.bytes, CERTIFICATE_HEAD_SIZE + zone * ZONE_PRICES_SIZE)
+        wire::per_curve_at(self.bytes, CERTIFICATE_HEAD_SIZE + zone * ZONE_PRICES_SIZE)
     }
 
     // The price of row 1.
@@ -120,19 +115,5 @@ impl<'a> CertificateReader<'a> {
             self.bytes,
             CERTIFICATE_HEAD_SIZE + self.zones * ZONE_PRICES_SIZE + flowgate * FLOWGATE_PRICE_SIZE,
         )
-    }
-}
-
-// The prices of four rows, one for each curve, one behind the other.
-#[tactic(auto, unfolding(market::specs::Records::reserve_prices_of))]
-fn reserve_prices_at(q: &[u8], at: usize) -> ReservePrices
-    requires { Within q.now at 16 }
-    ensures { (row : Curve → Row) → PricesFrom q.now row at → result ≡ reserve_prices_of (certificate_of q.now).price row }
-{
-    ReservePrices {
-        operating: wire::figure_at(q, at),
-        regulating_plus_spinning: wire::figure_at(q, at + 4),
-        regulating: wire::figure_at(q, at + 8),
-        short_term: wire::figure_at(q, at + 12),
     }
 }

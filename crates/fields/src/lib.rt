@@ -277,7 +277,8 @@ impl File {
         }
     }
 
-    // How many numbers a file has.
+    // How many numbers a file has. That the counts are in their ranges stands in `requires`, and not in their type: `Counts` holds
+    // what any three bytes say, before 3 is tested of them.
     #[tactic(auto, using(market::proofs::FileSizes::case_count, market::proofs::FileSizes::certificate_count))]
     pub fn count(self, n: Counts) -> usize
         requires { CountsWithin n.resources n.zones n.flowgates }

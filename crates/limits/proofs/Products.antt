@@ -2,7 +2,7 @@
 use mathlib.Core.Path.{◌≡◌}
 use mathlib.Core.List.{List}
 use Prim.Native.Nat.{ℕ}
-use Rattle.market.specs.Case.{regulating_reserve, contingency_reserve, short_term_reserve}
+use Rattle.market.specs.declared.Reserve.TheVariants.{Regulating as regulating_reserve, Contingency as contingency_reserve, ShortTerm as short_term_reserve}
 use Rattle.market.specs.CaseFile.{case_of}
 use Rattle.market.specs.Outcome.{Valid}
 use Rattle.market.specs.Records.{terms_of}

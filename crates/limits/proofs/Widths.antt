@@ -5,7 +5,8 @@ use Prim.Native.Nat.{ℕ, zero, suc, ◌+◌, ◌*◌, ◌<◌, ◌≤◌}
 use native.Mathlib.Numerals.{add-one}
 use native.Mathlib.Omega.{arith}
 use lib.IntN.{nat_abs}
-use Rattle.market.specs.Case.{Case, Resource as Figures, Curve, width_of, energy_steps, curve_steps}
+use Rattle.market.specs.Case.{Case, Resource as Figures, width_of, energy_steps, curve_steps}
+use Rattle.market.specs.declared.Curve.{Curve}
 use Rattle.market.specs.Records.{kw, power, offer_step_of, offer_steps_of, curve_step_of, curve_steps_of}
 use Rattle.market.specs.declared.Kw.{Kw}
 use Rattle.market.specs.declared.Step.{Step}

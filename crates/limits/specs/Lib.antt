@@ -1,3 +1,4 @@
 pub mod ByKind
+pub mod InRange
 pub mod Together
 pub mod Widths

@@ -2,16 +2,14 @@
 -- read back as the numbers.
 use Rattle.std.specs.Prelude.{Result, Ok, Err}
 use mathlib.Core.Path.{◌≡◌, refl, sym, ◌∙◌, ap}
-use mathlib.Core.List.{List, ◌++◌}
+use mathlib.Core.List.{List, ◌++◌, append-nil}
 use Prim.Native.Nat.{ℕ, ◌+◌, ◌<◌, ◌≤◌}
 use native.Mathlib.Omega.{arith}
 use lib.IntN.{ℤ}
-use lib.ListN.{length, drop, take}
-use lib.Seq.{take_at}
+use lib.ListN.{length, drop, drop_of_length-le}
 use Rattle.arith.specs.Sums.{total_of}
 use Rattle.market.specs.declared.Refusal.{Refusal}
 use Rattle.market.specs.declared.Refusal.TheVariants.{BufferShort}
-use Rattle.market.specs.CaseCheck.{CountsWithin, largest_case_size}
 use Rattle.market.specs.Refusals.{Finding, clear, holds, answered, first_of, buffer_after}
 use Rattle.market.specs.Numbers.{Field, field_width, file_of, fields_for, file_for, list_grounds, read_case, read_case_buffer, read_certificate, read_certificate_buffer, write_case, write_case_grounds, write_case_buffer, write_certificate, write_certificate_grounds, write_certificate_buffer}
 use Rattle.market.proofs.FileSizes.{case_fills, certificate_fills, case_size_most, certificate_size_most}
@@ -40,16 +38,11 @@ module _ (file : File) (vs : List ℤ) (r z f : ℕ) (h : Listed file vs r z f) 
   file_size : length (file_of_list file vs) ≡ size_of file r z f
   file_size = ap length (sym file_is) ∙ file_long (fields_of file r z f) vs (fit_length (fields_of file r z f) vs h.fit)
 
--- in a buffer of which it is the front
-pub file_front : (file : File) (vs : List ℤ) (r z f : ℕ) → Listed file vs r z f → (size : ℕ) → size ≡ size_of file r z f → (rest out : List ℕ) → out ≡ file_of (fields_of file r z f) vs ++ rest → take size out ≡ file_of_list file vs
-file_front file vs r z f h size s rest out e = rw (e, file_is file vs r z f h) (take_at (file_of_list file vs) rest size (file_size file vs r z f h ∙ sym s))
+-- in a buffer of its own size
+pub file_whole : (file : File) (vs : List ℤ) (r z f : ℕ) → Listed file vs r z f → (size : ℕ) (old out : List ℕ) → length old ≤ size → out ≡ file_of (fields_of file r z f) vs ++ drop size old → out ≡ file_of_list file vs
+file_whole file vs r z f h size old out l e = e ∙ rw (drop_of_length-le old {i = size} l, append-nil) (file_is file vs r z f h)
 
 pub ruleset file_sizes = (case_fills, certificate_fills, case_size_most, certificate_size_most)
-
--- the largest
-pub size_most : (file : File) (r z f : ℕ) → CountsWithin r z f → size_of file r z f ≤ largest_case_size
-size_most Case r z f n = omega (arith, case_fills r z f, case_size_most n)
-size_most Certificate r z f n = omega (arith, certificate_fills r z f, certificate_size_most n)
 
 -- ---- the answer and the buffer afterwards
 module _ (file : File) (vs : List ℤ) (old : List ℕ) where

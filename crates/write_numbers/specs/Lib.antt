@@ -1,2 +1,3 @@
+pub mod InList
 pub mod Listed
 pub mod Writing

@@ -12,7 +12,7 @@ ghost use Rattle.wire.specs.Within.{Within, written};
 ghost use Rattle.fields.specs.declared.File.TheVariants.{Case};
 ghost use Rattle.fields.specs.Layout.{field_of, fields_of};
 ghost use Rattle.write_numbers.specs.Listed.{Fits, Listed};
-ghost use Rattle.write_numbers.specs.Writing.{listed_counts, size_of, writing_grounds, write_file, write_file_buffer, ReadBack};
+ghost use Rattle.write_numbers.specs.Writing.{listed_counts, writing_grounds, write_file, write_file_buffer, ReadBack};
 
 use fields::{Field, File};
 use market::{Counts, Refusal};
@@ -33,40 +33,52 @@ fn put_number(out: &mut [u8], at: usize, field: Field, v: i64)
     }
 }
 
-// The numbers, field by field, after length and version.
-fn put_numbers(file: File, v: &[i64], n: Counts, out: &mut [u8])
-    requires { Listed file v.now n.resources n.zones n.flowgates × (size_of file n.resources n.zones n.flowgates ≤ length out.old) }
-    ensures { out.new ≡ written 5 (bytes_of (fields_of file n.resources n.zones n.flowgates) v.now) out.old }
-{
-    let mut at: usize = 5;
-    for (k, &number) in v.iter().enumerate() {
-        let field = file.field_at(n, k);
-        put_number(out, at, field, number);
-        at += field.width();
-    }
+// Numbers that have passed 16 and 3 as those of a file, with their counts.
+#[derive(Clone, Copy)]
+struct NumberList<'a> {
+    file: File,
+    numbers: &'a [i64],
+    counts: Counts,
+    ghost listed: { Listed file numbers.now counts.resources counts.zones counts.flowgates },
 }
 
-// How many bytes a file has.
-#[tactic(auto, using(crate::proofs::Handed::file_sizes))]
-fn file_size(file: File, n: Counts) -> u32
-    requires { CountsWithin n.resources n.zones n.flowgates }
-    ensures { (result ≡ size_of file n.resources n.zones n.flowgates) × (result ≤ largest_case_size) }
-{
-    match file {
-        File::Case => market::case_size(n.resources, n.zones, n.flowgates) as u32,
-        File::Certificate => market::certificate_size(n.resources, n.zones, n.flowgates) as u32,
-    }
-}
+impl NumberList<'_> {
+    ghost use Rattle.write_numbers.specs.InList.{fields_in, size_in};
 
-// Length, version 1, the numbers; what stands beyond them in the buffer stays.
-fn put_file(file: File, v: &[i64], n: Counts, out: &mut [u8])
-    requires { Listed file v.now n.resources n.zones n.flowgates × (size_of file n.resources n.zones n.flowgates ≤ length out.old) }
-    ensures { out.new ≡ file_of (fields_of file n.resources n.zones n.flowgates) v.now ++ drop (size_of file n.resources n.zones n.flowgates) out.old }
-{
-    let size = file_size(file, n);
-    wire::put_u32(out, 0, size - 4);
-    wire::put_u8(out, 4, 1);
-    put_numbers(file, v, n, out);
+    // How many bytes the file has.
+    #[tactic(auto, using(crate::proofs::Handed::file_sizes))]
+    fn size(&self) -> usize
+        ensures { (result ≡ size_in self.now) × (result ≤ largest_case_size) }
+    {
+        let n = self.counts;
+        match self.file {
+            File::Case => market::case_size(n),
+            File::Certificate => market::certificate_size(n),
+        }
+    }
+
+    // Field by field, after length and version.
+    fn put_numbers(&self, out: &mut [u8])
+        requires { size_in self.now ≤ length out.old }
+        ensures { out.new ≡ written 5 (bytes_of (fields_in self.now) self.now.numbers.now) out.old }
+    {
+        let mut at: usize = 5;
+        for (k, &number) in self.numbers.iter().enumerate() {
+            let field = self.file.field_at(self.counts, k);
+            put_number(out, at, field, number);
+            at += field.width();
+        }
+    }
+
+    // The file: length, version 1, the numbers; what stands beyond them in the buffer stays.
+    fn put(&self, out: &mut [u8])
+        requires { size_in self.now ≤ length out.old }
+        ensures { out.new ≡ file_of (fields_in self.now) self.now.numbers.now ++ drop (size_in self.now) out.old }
+    {
+        wire::put_u32(out, 0, self.size() as u32 - 4);
+        wire::put_u8(out, 4, 1);
+        self.put_numbers(out);
+    }
 }
 
 // ---- 16, 3, 16
@@ -136,35 +148,38 @@ fn list_stage(file: File, v: &[i64]) -> Result<Counts, Refusal>
 
 // ---- 5, 6, 7
 // Of the file that is to be written, put into bytes that no one reads afterwards.
-fn filed_stage(v: &[i64], n: Counts, bytes: &mut [u8]) -> Result<Counts, Refusal>
-    requires { Listed Case v.now n.resources n.zones n.flowgates × (size_of Case n.resources n.zones n.flowgates ≤ length bytes.old) }
-    ensures { result ≡ answered (listed_counts v.now) (first_of (writing_grounds Case v.now)) }
-{
-    let size = file_size(File::Case, n) as usize;
-    put_file(File::Case, v, n, bytes);
-    case_check::case_stage(&bytes[..size])
-}
-
 fn case_stage(v: &[i64]) -> Result<Counts, Refusal>
     ensures { result ≡ answered (listed_counts v.now) (first_of (writing_grounds Case v.now)) }
 {
-    let n = list_stage(File::Case, v)?;
+    let counts = list_stage(File::Case, v)?;
+    let list = NumberList {
+        file: File::Case,
+        numbers: v,
+        counts,
+    };
     let mut bytes = [0u8; market::LARGEST_CASE_SIZE];
-    filed_stage(v, n, &mut bytes)
+    let file = &mut bytes[..list.size()];
+    list.put(file);
+    case_check::case_stage(file)
 }
 
 // ---- the operations
-// 15, then the file of numbers that have passed the other grounds, with their counts n.
-fn hand_over(file: File, v: &[i64], n: Counts, out: &mut [u8]) -> Result<u32, Refusal>
-    requires { (first_of (writing_grounds file v.now) ≡ clear) × (n ≡ listed_counts v.now) }
+// 15, then the file of numbers that have passed the other grounds, with their counts.
+fn hand_over(file: File, v: &[i64], counts: Counts, out: &mut [u8]) -> Result<u32, Refusal>
+    requires { (first_of (writing_grounds file v.now) ≡ clear) × (counts ≡ listed_counts v.now) }
     ensures { (result ≡ write_file file v.now (length out.old)) × (out.new ≡ write_file_buffer file v.now out.old) }
 {
-    let size = file_size(file, n);
-    if out.len() < size as usize {
+    let list = NumberList {
+        file,
+        numbers: v,
+        counts,
+    };
+    let size = list.size();
+    if out.len() < size {
         return Err(Refusal::BufferShort);
     }
-    put_file(file, v, n, out);
-    Ok(size)
+    list.put(out);
+    Ok(size as u32)
 }
 
 // Writes a case from numbers: 16, 3, 16, 5, 6, 7, then 15.

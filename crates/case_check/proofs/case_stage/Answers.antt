@@ -16,7 +16,7 @@ pub returns-then-sound : goal.returns-then-sound
 returns-then-sound c =
     let b = c.args.b.now in
     let w = passed_clear (counts_in (case_of b)) c.in-Ok.n (first_of (shape_grounds b)) (sym c.shape_stage-shape.ensures.answer ∙ cc) in
-    rw (later_grounds b w.0, sound_passes b (c.sound.ensures c.if-sound.true)) cc
+    rw (later_grounds b w.0, sound_passes b (rw c.new-case.ensures.bytes at c.sound.ensures c.if-sound.true)) cc
 
 pub returns : goal.returns
 returns c =

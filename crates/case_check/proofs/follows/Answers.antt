@@ -4,10 +4,10 @@ use Rattle.case_soundness.proofs.Steps.{follow_none, follow_some}
 use Rattle.case_check.proofs.follows.Goals as goal
 
 pub returns-then-next-eq0 : goal.returns-then-next-eq0
-returns-then-next-eq0 c = rw (follow_none _ _ _ _ _ c.if-next-eq0.true) (sym (zero_plain c.args.price))
+returns-then-next-eq0 c = rw (follow_none _ _ _ _ _ c.if-next-eq0.true) (sym (zero_plain c.args.next.price))
 
-pub returns-then-width-gt0 : goal.returns-then-width-gt0
-returns-then-width-gt0 c = rw (follow_some _ _ _ _ _ c.if-next-eq0.false, lt-ltb 0 _ c.if-width-gt0.true)
+pub returns-then-step-gt0 : goal.returns-then-step-gt0
+returns-then-step-gt0 c = rw (follow_some _ _ _ _ _ c.if-next-eq0.false, lt-ltb 0 _ c.if-step-gt0.true)
 
-pub returns-else-width-gt0 : goal.returns-else-width-gt0
-returns-else-width-gt0 c = rw (follow_some _ _ _ _ _ c.if-next-eq0.false, le-ltb 0 _ c.if-width-gt0.false)
+pub returns-else-step-gt0 : goal.returns-else-step-gt0
+returns-else-step-gt0 c = rw (follow_some _ _ _ _ _ c.if-next-eq0.false, le-ltb 0 _ c.if-step-gt0.false)

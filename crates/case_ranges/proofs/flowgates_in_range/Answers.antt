@@ -4,4 +4,4 @@ use Rattle.case_ranges.proofs.Places.{flowgate_here}
 use Rattle.case_ranges.proofs.flowgates_in_range.Goals as goal
 
 pub returns : goal.returns
-returns c = all_upto _ _ refl c.all.ensures.ran (λ k b q h. search (rules, flowgate_here c.requires))
+returns c = all_upto _ _ refl c.all.ensures.ran (λ k b q h. search (rules, flowgate_here c.args.case.now.whole))

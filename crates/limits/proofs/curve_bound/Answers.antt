@@ -12,5 +12,5 @@ use Rattle.limits.proofs.curve_bound.Goals as goal
 pub returns : goal.returns
 unfolding upper_bound
 returns c = λ k l e.
-    let n : length c.args.curve ≡ curve_steps = search rules in
-    c.total_width.ensures ∙ rw n (ap power (widths_same (widths_of (curve_step c.args.curve)) (k.curve_width l) curve_steps (curve_width_is k l e)))
+    let n : length c.args.curve.steps ≡ curve_steps = search rules in
+    c.total_width.ensures ∙ rw n (ap power (widths_same (widths_of (curve_step c.args.curve.steps)) (k.curve_width l) curve_steps (curve_width_is k l e)))

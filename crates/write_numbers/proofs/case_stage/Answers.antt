@@ -1,19 +1,44 @@
-use mathlib.Core.Path.{◌≡◌, sym, ◌∙◌}
+use mathlib.Core.Path.{◌≡◌, sym, ap, ◌∙◌}
+use mathlib.Core.List.{List, ◌++◌}
+use lib.ListN.{length, drop, take, replicate, length-replicate}
+use Rattle.market.specs.Numbers.{file_of}
+use Rattle.fields.specs.Layout.{fields_of}
+use Rattle.write_numbers.specs.Writing.{size_of}
+use Prim.Native.Nat.{ℕ, ◌≤◌}
+use lib.Seq.{length-take-le}
+use Rattle.market.specs.CaseCheck.{largest_case_size}
+use native.Mathlib.Omega.{arith}
+use Rattle.market.specs.CaseFile.{case_of}
+use Rattle.market.specs.Records.{counts_in}
+use Rattle.market.specs.Refusals.{answered, first_of}
+use Rattle.market.specs.Outcome.{case_grounds}
+use Rattle.write_numbers.proofs.Handed.{file_whole}
 use borrow.Author.Rules.{rules}
 use Rattle.std.specs.Prelude.{Result, Err}
 use Rattle.market.specs.declared.Counts.{Counts}
 use Rattle.market.specs.declared.Refusal.{Refusal}
 use Rattle.fields.specs.declared.File.TheVariants.{Case}
-use Rattle.write_numbers.proofs.Handed.{size_most}
-use Rattle.write_numbers.proofs.Stages.{list_passed, list_refused}
+use Rattle.write_numbers.proofs.Stages.{list_passed, list_refused, filed}
 use Rattle.write_numbers.proofs.case_stage.Goals as goal
 
-pub returns-in_err-n : goal.returns-in_err-n
-returns-in_err-n c =
-    let e : ◌≡◌ {A = Result Counts Refusal} c.from_residual.result (Err c.in_err-n.field-0.0) = search rules in
-    e ∙ list_refused Case c.args.v.now _ (sym c.list_stage.ensures ∙ c.in_err-n.was)
+pub returns-in_err-counts : goal.returns-in_err-counts
+returns-in_err-counts c =
+    let e : ◌≡◌ {A = Result Counts Refusal} c.from_residual.result (Err c.in_err-counts.field-0.0) = search rules in
+    e ∙ list_refused Case c.args.v.now _ (sym c.list_stage.ensures ∙ c.in_err-counts.was)
 
-pub filed_stage-requires : goal.filed_stage-requires
-filed_stage-requires c =
-    let p = list_passed Case c.args.v.now _ (sym c.list_stage.ensures ∙ c.in_ok-n.was) in
-    (p, size_most Case _ _ _ p.counts)
+pub invariant_of-list : goal.invariant_of-list
+invariant_of-list c = record { listed = list_passed Case c.args.v.now _ (sym c.list_stage.ensures ∙ c.in_ok-counts.was) }
+
+pub returns : goal.returns
+returns c =
+    let v = c.args.v.now in
+    let n = c.in_ok-counts.counts in
+    let p = list_passed Case v n (sym c.list_stage.ensures ∙ c.in_ok-counts.was) in
+    let size = size_of Case n.resources n.zones n.flowgates in
+    let zeros : List ℕ = replicate largest_case_size 0 in
+    let old = take c.size.result zeros in
+    let l : length old ≤ size = let e = c.size.ensures in omega (arith, e.0, e.1, length-take-le c.size.result zeros (omega (arith, e.1, length-replicate {A = ℕ} largest_case_size 0))) in
+    let k : c.put.new.out ≡ file_of (fields_of Case n.resources n.zones n.flowgates) v ++ drop size old = c.put.ensures in
+    c.case_stage.ensures
+    ∙ ap (λ (x : List ℕ). answered (counts_in (case_of x)) (first_of (case_grounds x))) (file_whole Case v n.resources n.zones n.flowgates p size old c.put.new.out l k)
+    ∙ filed v p.none_holds

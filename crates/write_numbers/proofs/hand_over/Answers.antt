@@ -3,14 +3,11 @@ use Rattle.write_numbers.proofs.Stages.{passed}
 use Rattle.write_numbers.proofs.Handed.{write_short, write_whole}
 use Rattle.write_numbers.proofs.hand_over.Goals as goal
 
-pub file_size-size-requires : goal.file_size-size-requires
-file_size-size-requires c = (passed c.args.file c.args.v.now _ c.requires.0 c.requires.1).counts
+pub invariant_of-list : goal.invariant_of-list
+invariant_of-list c = record { listed = passed c.args.file c.args.v.now _ c.requires.0 c.requires.1 }
 
 pub returns-then-out-size : goal.returns-then-out-size
-returns-then-out-size c = let e = c.file_size-size.ensures.0 in write_short c.args.file c.args.v.now c.args.out.now _ c.requires.0 c.requires.1 (omega arith)
-
-pub put_file-requires : goal.put_file-requires
-put_file-requires c = let e = c.file_size-size.ensures.0 in (passed c.args.file c.args.v.now _ c.requires.0 c.requires.1, omega arith)
+returns-then-out-size c = let e = c.size-size.ensures.0 in write_short c.args.file c.args.v.now c.args.out.now _ c.requires.0 c.requires.1 (omega arith)
 
 pub returns : goal.returns
-returns c = let e = c.file_size-size.ensures.0 in rw e (write_whole c.args.file c.args.v.now c.args.out.now _ c.requires.0 c.requires.1 _ (omega arith) c.put_file.ensures)
+returns c = let e = c.size-size.ensures.0 in rw e (write_whole c.args.file c.args.v.now c.args.out.now _ c.requires.0 c.requires.1 _ (omega arith) c.put.ensures)

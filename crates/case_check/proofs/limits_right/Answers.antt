@@ -1,7 +1,0 @@
-use Rattle.std.proofs.Common.{refl, rules}
-use Rattle.arith.proofs.Ranges.{all_upto}
-use Rattle.case_ranges.proofs.Places.{resource_is}
-use Rattle.case_check.proofs.limits_right.Goals as goal
-
-pub returns : goal.returns
-returns c = all_upto _ _ refl c.all.ensures.ran (λ k b q h. search (rules, resource_is c.args.b.now c.requires.0))

@@ -1,0 +1,10 @@
+// The steps of a demand curve, in the ranges of a valid case.
+ghost use Rattle.case_records.specs.Ranged.{RangedCurve};
+
+use market::CurveSteps;
+
+#[derive(Clone, Copy, Drop)]
+pub struct CurveInRange {
+    pub steps: CurveSteps,
+    pub ghost ranged: { RangedCurve steps },
+}
