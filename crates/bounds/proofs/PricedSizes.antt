@@ -10,14 +10,14 @@ use lib.IntN.{nat_abs}
 use Rattle.arith.specs.Sums.{upto}
 use Rattle.arith.proofs.Lists.{each-upto}
 use Rattle.arith.proofs.NaturalSums.{total_mono, total-suc, total_longer}
-use Rattle.market.specs.Case.{Case, energy_steps, curve_steps}
+use Rattle.market.specs.Case.{Case, energy_steps}
 use Rattle.market.specs.Records.{offer_step_of, offer_steps_of}
 use Rattle.market.proofs.Ranges.{CaseRanges}
 use Rattle.market.proofs.AmountSizes.{widths_total}
-use Rattle.case_records.specs.Ranged.{offer_step, curve_step, RangedCurve}
+use Rattle.case_records.specs.Ranged.{offer_step}
 use Rattle.case_records.proofs.Ranged.{offer_step_is}
-use Rattle.bounds.specs.Sizes.{SmallStep, SmallSteps, steps_width}
-use Rattle.market.specs.Sizes.{most_power, most_curve_width}
+use Rattle.bounds.specs.Sizes.{SmallSteps, steps_width}
+use Rattle.market.specs.Sizes.{most_power}
 
 module _ (c : Case) (h : CaseRanges c) (i : ℕ) (n : i < c.resources) where
   pub steps_small : SmallSteps (offer_steps_of (c.resource i))
@@ -45,10 +45,3 @@ module _ {o : (List Step)} (h : SmallSteps o) where
 
   pub widths_room : (j : ℕ) → j < energy_steps → steps_width o j + nat_abs (offer_step o j).width.0 ≤ most_power
   widths_room j l = omega (arith, total-suc widths j, total_longer widths {m = suc j} energy_steps l, h.together)
-
-  pub step_small : (j : ℕ) → j < energy_steps → SmallStep (offer_step o j) most_power
-  step_small j l = record { width = omega (arith, widths_room j l); price = h.price j l }
-
--- a step of a curve in its ranges
-pub curve_step_small : {o : (List Step)} → RangedCurve o → (j : ℕ) → j < curve_steps → SmallStep (curve_step o j) most_curve_width
-curve_step_small h j l = record { width = (h.width j l).at_most; price = (h.price j l).at_most }

@@ -11,7 +11,9 @@ use Rattle.arith.specs.Sums.{sum_of, upto, across}
 use Rattle.arith.proofs.Lists.{each-upto}
 use Rattle.arith.proofs.Linear.{sorted, count}
 use Rattle.arith.proofs.Sums.{sum-each-ext, append_sums, sum-add, sum-map, sum-across}
-use Rattle.market.specs.Case.{Case, Curve, curves, operating, regulating_plus_spinning, regulating, short_term, energy_steps, curve_steps}
+use Rattle.market.specs.Case.{Case, curves, energy_steps, curve_steps}
+use Rattle.market.specs.declared.Curve.{Curve}
+use Rattle.market.specs.declared.Curve.TheVariants.{Operating as operating, RegulatingPlusSpinning as regulating_plus_spinning, Regulating as regulating, ShortTerm as short_term}
 use Rattle.market.specs.CaseFile.{case_of}
 use Rattle.market.specs.declared.Grains.{Grains}
 use Rattle.market.specs.declared.Millicents.{Millicents}
@@ -31,7 +33,7 @@ use Rattle.limits.specs.Together.{reserve_bounds_of}
 use Rattle.prices.specs.Standing.{PricesStand}
 use Rattle.net_prices.specs.NetPrices.{nets_of}
 use Rattle.net_prices.proofs.Known.{step_is}
-use Rattle.bounds.specs.Sizes.{Figure}
+use Rattle.units.specs.Sized.{Sized}
 use Rattle.bounds.specs.Terms.{row_term, priced_term, zone_terms, flowgate_term, limit_terms, least_terms, resource_terms, step_least, reserves_least, curve_step_least}
 use Rattle.bounds.proofs.RowTerms.{over_curves, rows_are}
 
@@ -76,7 +78,7 @@ module _ (c : Case) (y : Prices) where
 
   -- of what was read
   pub curve_from_lem : (k : Curve) {p : Millicents} {o : (List Step)} {g : Grains} {m : ℕ} → p ≡ millicents (y (market_row k)) → o ≡ curve_steps_of c k →
-      Figure g (sum_of (λ j. curve_step_least p (curve_step o j)) (upto curve_steps)) m → Figure g (sum_of (lowest c y) (curve_priced k)) m
+      Sized g.0 (sum_of (λ j. curve_step_least p (curve_step o j)) (upto curve_steps)) m → Sized g.0 (sum_of (lowest c y) (curve_priced k)) m
   curve_from_lem k e d h = record { is = h.is ∙ rw (e, d) (curve_least_is k); size = h.size }
 
   pub curves_are : sum_of (lowest c y) (curve_priced operating)

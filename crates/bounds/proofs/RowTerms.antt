@@ -9,7 +9,9 @@ use Rattle.arith.specs.Sums.{sum_of, upto}
 use Rattle.arith.proofs.Linear.{sorted, count}
 use Rattle.arith.proofs.Magnitudes.{abs-sub, abs-mul}
 use Rattle.arith.proofs.Sums.{sum-ext, sum-zero}
-use Rattle.market.specs.Case.{Case, Curve, curves, operating, regulating_plus_spinning, regulating, short_term}
+use Rattle.market.specs.Case.{Case, curves}
+use Rattle.market.specs.declared.Curve.{Curve}
+use Rattle.market.specs.declared.Curve.TheVariants.{Operating as operating, RegulatingPlusSpinning as regulating_plus_spinning, Regulating as regulating, ShortTerm as short_term}
 use Rattle.market.specs.CaseFile.{case_of}
 use Rattle.market.specs.Limits.{max_of, min_of, hi_of, lo_of}
 use Rattle.market.specs.Rows.{balance_row, market_row, zone_row, flowgate_row, limit_row, max_with_reserve, max_with_short_term, minimum, high, low, limits, rows, right_side}

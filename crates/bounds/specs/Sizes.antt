@@ -2,9 +2,8 @@
 -- is known of the records that they are made from. All are made from the figures of `market/specs/Sizes.antt`.
 use Rattle.market.specs.declared.PerCurve.{PerCurve}
 use Rattle.std.specs.Prelude.{List}
-use Rattle.std.specs.Prelude.{◌≡◌, ℕ, ◌+◌, ◌*◌, ◌<◌, ◌≤◌, ℤ, nat_abs}
+use Rattle.std.specs.Prelude.{ℕ, ◌+◌, ◌*◌, ◌<◌, ◌≤◌, nat_abs}
 use Rattle.arith.specs.Sums.{total_of, upto}
-use Rattle.market.specs.declared.Grains.{Grains}
 use Rattle.market.specs.declared.Kw.{Kw}
 use Rattle.market.specs.declared.Millicents.{Millicents}
 use Rattle.market.specs.declared.Step.{Step}
@@ -58,11 +57,6 @@ abbrev pub most_curves_terms : ℕ
 most_curves_terms = 4 * most_curve_terms
 
 -- ---- figures
--- a figure is v grains, and no more than `most`
-pub record Figure (figure : Grains) (v : ℤ) (most : ℕ) : Type 0 where
-  pub is : figure.0 ≡ v
-  pub size : nat_abs figure.0 ≤ most
-
 -- the price of a row, and its right side in kW: of these, demand is the largest
 pub record RowRoom (price : Millicents) (side : Kw) : Type 0 where
   pub row_price : SmallPrice price

@@ -1,3 +1,2 @@
-pub mod Blocks
-pub mod Numbers
+pub mod Places
 pub mod Sizes

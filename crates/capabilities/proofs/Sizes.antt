@@ -1,4 +1,4 @@
--- The capability of a resource of a case whose figures are in range is small.
+-- The limits and upper bounds of a resource of a case whose figures are in range are small.
 use Prim.Native.Nat.{ℕ, ◌<◌}
 use native.Mathlib.Omega.{arith}
 use lib.IntN.{pos}
@@ -11,8 +11,7 @@ use Rattle.market.proofs.Ranges.{CaseRanges}
 use Rattle.market.proofs.RowSizes.{right_size}
 use Rattle.market.proofs.LimitSizes.{service_most}
 use Rattle.limits.specs.Together.{limits_of, reserve_bounds_of}
-use Rattle.capabilities.specs.Kept.{capability_of}
-use Rattle.capabilities.specs.Sizes.{SmallLimits, SmallBounds, SmallCapability}
+use Rattle.capabilities.specs.Sizes.{SmallLimits, SmallBounds}
 
 module _ (c : Case) (h : CaseRanges c) (i : ℕ) (n : i < c.resources) where
   pub limits_small : SmallLimits (limits_of (c.resource i))
@@ -36,7 +35,3 @@ module _ (c : Case) (h : CaseRanges c) (i : ℕ) (n : i < c.resources) where
         on_line_short_term = most on_line_short_term;
         off_line_short_term = most off_line_short_term;
       }
-
-  pub capability_small : SmallCapability (capability_of c (c.resource i))
-  unfolding capability_of
-  capability_small = record { limits = limits_small; bounds = bounds_small }

@@ -1,10 +1,9 @@
--- How large the figures of a capability are.
+-- How large the limits and upper bounds of a resource are.
 use Rattle.std.specs.Prelude.{◌≤◌, nat_abs}
 use Rattle.market.specs.Rows.{max_with_reserve, minimum, high, low}
 use Rattle.market.specs.Sizes.{most_power, most_limit}
 use Rattle.limits.specs.declared.ReserveBounds.{ReserveBounds}
 use Rattle.limits.specs.declared.ResourceLimits.{ResourceLimits}
-use Rattle.capabilities.specs.declared.Capability.{Capability}
 
 pub record SmallLimits (limits : ResourceLimits) : Type 0 where
   pub max : nat_abs limits.max.0 ≤ most_limit max_with_reserve
@@ -17,7 +16,3 @@ pub record SmallBounds (bounds : ReserveBounds) : Type 0 where
   pub contingency : nat_abs bounds.contingency.0 ≤ most_power
   pub on_line_short_term : nat_abs bounds.on_line_short_term.0 ≤ most_power
   pub off_line_short_term : nat_abs bounds.off_line_short_term.0 ≤ most_power
-
-pub record SmallCapability (k : Capability) : Type 0 where
-  pub limits : SmallLimits k.limits
-  pub bounds : SmallBounds k.bounds

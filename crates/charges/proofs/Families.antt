@@ -7,7 +7,9 @@ use lib.IntN.{ℤ, pos, nat_abs, ◌+ℤ◌, ◌-ℤ◌, ◌*ℤ◌}
 use lib.ListN.{length, set, drop, length-append, length-map}
 use Rattle.arith.specs.Sums.{Each, upto, across}
 use Rattle.arith.proofs.Lists.{each-upto, map-upto, length-upto}
-use Rattle.market.specs.Case.{Case, Curve, curves, operating, regulating_plus_spinning, regulating, short_term, energy_steps, curve_steps}
+use Rattle.market.specs.Case.{Case, curves, energy_steps, curve_steps}
+use Rattle.market.specs.declared.Curve.{Curve}
+use Rattle.market.specs.declared.Curve.TheVariants.{Operating as operating, RegulatingPlusSpinning as regulating_plus_spinning, Regulating as regulating, ShortTerm as short_term}
 use Rattle.market.specs.declared.Step.{Step}
 use Rattle.market.specs.Availability.{on_line}
 use Rattle.market.specs.UpperBounds.{Schedule, provided_quantity, cleared_quantity, energy, reserve_services}

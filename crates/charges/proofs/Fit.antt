@@ -1,41 +1,18 @@
 -- Each charge fits a signed 64-bit number: net price, amount and upper bound are small enough.
 use mathlib.Core.List.{List}
-use Prim.Native.Nat.{ℕ, ◌+◌, ◌*◌, ◌<◌, ◌≤◌}
-use native.Mathlib.Nat.{mul-le-mul}
+use Prim.Native.Nat.{ℕ, ◌<◌}
 use native.Mathlib.Omega.{arith}
-use lib.IntN.{ℤ, nat_abs, ◌*ℤ◌}
-use Rattle.arith.proofs.Magnitudes.{abs-mul}
 use Rattle.market.specs.Case.{energy_steps, curve_steps}
 use Rattle.market.specs.Cost.{filled}
-use Rattle.market.specs.Fits.{range64}
 use Rattle.market.specs.Sizes.{most_power, most_curve_width}
 use Rattle.market.specs.Records.{power}
 use Rattle.market.proofs.Steps.{filled_below}
-use Rattle.market.specs.declared.Grains.{Grains}
-use Rattle.market.specs.declared.Kw.{Kw}
-use Rattle.market.specs.declared.Millicents.{Millicents}
 use Rattle.market.specs.declared.Step.{Step}
 use Rattle.case_records.specs.Ranged.{RangedSteps, RangedCurve, offer_step, curve_step}
-use Rattle.units.specs.Room.{SumRoom}
-use Rattle.bounds.specs.Sizes.{Figure}
-use Rattle.bounds.proofs.Figures.{product_room}
 use Rattle.costs.specs.Steps.{StepRanges}
 use Rattle.limits.specs.Widths.{widths_of}
 use Rattle.costs.proofs.Filling.{offer_ranges, curve_ranges}
-use Rattle.charges.specs.Sizes.{ChargeRoom, StepRoom}
-
--- net price, amount and upper bound each within its figure
-pub charge_room : {net : Millicents} {amount upper : Kw} {m n : ℕ} → nat_abs net.0 ≤ m → nat_abs amount.0 ≤ n → nat_abs upper.0 ≤ n → m < range64 → n < range64 → m * n + m * n < range64 → ChargeRoom net amount upper
-charge_room h k l p q r =
-    record {
-      added = product_room h k p q (omega arith);
-      least = product_room h l p q (omega arith);
-      together = omega (arith, mul-le-mul h k, mul-le-mul h l);
-    }
-
--- what the amount adds, less the least
-pub difference_room : {net : Millicents} {amount upper : Kw} → ChargeRoom net amount upper → {least : Grains} {v : ℤ} → Figure least v (nat_abs net.0 * nat_abs upper.0) → SumRoom (net.0 *ℤ amount.0) least.0
-difference_room {net} {amount} h k = omega (arith, k.size, h.together, abs-mul net.0 amount.0)
+use Rattle.charges.specs.Sizes.{StepRoom}
 
 -- ---- a step with what fills it of x kW
 step_room : {steps : ℕ → Step} {n widest : ℕ} → StepRanges steps n widest → (x j : ℕ) → j < n → StepRoom (steps j) (power (filled (widths_of steps) x j)) widest

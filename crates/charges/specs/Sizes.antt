@@ -1,14 +1,11 @@
 -- How large the figures are from which charges are made, so that each charge fits. The figures are those of
 -- `market/specs/Sizes.antt`; here they are said of the records that the code reads.
-use Rattle.market.specs.declared.PerService.{PerService}
-use Rattle.std.specs.Prelude.{List}
 use Rattle.std.specs.Prelude.{ℕ, ◌+◌, ◌*◌, ◌<◌, ◌≤◌, nat_abs}
 use Rattle.market.specs.declared.Kw.{Kw}
 use Rattle.market.specs.declared.Millicents.{Millicents}
 use Rattle.market.specs.declared.Step.{Step}
 use Rattle.market.specs.Fits.{range64}
-use Rattle.market.specs.Sizes.{most_power}
-use Rattle.case_records.specs.Ranged.{UpTo, RangedSteps, RangedCurve}
+use Rattle.case_records.specs.Ranged.{UpTo}
 use Rattle.units.specs.Room.{ProductRoom}
 use Rattle.net_prices.specs.Sizes.{SmallPrice}
 use Rattle.bounds.specs.Sizes.{SmallStep}
@@ -27,23 +24,10 @@ pub record StepRoom (this : Step) (amount : Kw) (widest : ℕ) : Type 0 where
   pub step : SmallStep this widest
   pub part : nat_abs amount.0 ≤ widest
 
--- its offer, and its energy
-pub record StepsRoom (offered : (List Step)) (energy : Kw) : Type 0 where
-  pub steps : RangedSteps offered
-  pub provided : UpTo energy.0 most_power
-
--- what it is given of its reserves
-pub record SmallReserves (amounts : (PerService Kw)) : Type 0 where
-  pub regulation : nat_abs amounts.regulation.0 ≤ most_power
-  pub contingency : nat_abs amounts.contingency.0 ≤ most_power
-  pub on_line_short_term : nat_abs amounts.on_line_short_term.0 ≤ most_power
-  pub off_line_short_term : nat_abs amounts.off_line_short_term.0 ≤ most_power
-
--- ---- a curve: the price of its market row, its steps and its cleared quantity
-pub record CurveRoom (price : Millicents) (curve : (List Step)) (amount : Kw) : Type 0 where
+-- ---- a curve: the price of its market row and its cleared quantity
+pub record CurveRoom (price : Millicents) (amount : Kw) : Type 0 where
   pub row_price : SmallPrice price
-  pub steps : RangedCurve curve
   pub cleared : UpTo amount.0 most_in_steps
 
 abbrev pub ClearedRoom : ClearedCurve → Type 0
-ClearedRoom curve = CurveRoom curve.price curve.steps curve.cleared
+ClearedRoom own = CurveRoom own.price own.cleared

@@ -6,14 +6,10 @@ use Rattle.arith.specs.Sums.{upto}
 use Rattle.market.specs.declared.Kw.{Kw}
 use Rattle.market.specs.declared.Millicents.{Millicents}
 use Rattle.market.specs.declared.Step.{Step}
-use Rattle.market.specs.Case.{Curve}
 use Rattle.market.specs.CaseFile.{case_of}
-use Rattle.market.specs.UpperBounds.{cleared_quantity}
-use Rattle.market.specs.Rows.{market_row}
 use Rattle.market.specs.Certificate.{certificate_of}
 use Rattle.market.specs.Cost.{Priced, priced_of, filled}
 use Rattle.market.specs.Charges.{priced_charge}
-use Rattle.market.specs.Records.{power, millicents, curve_steps_of}
 use Rattle.case_records.specs.Ranged.{offer_step, curve_step}
 use Rattle.limits.specs.declared.ReserveBounds.{ReserveBounds}
 use Rattle.bounds.specs.Terms.{least_of, step_bound}
@@ -58,13 +54,6 @@ curve_step_charge price step amount = charge_of (price.0 -ℤ pos 1000 *ℤ step
 abbrev pub curve_charge : Millicents → (List Step) → ℕ → ℕ → ℤ
 curve_charge price curve amount j = curve_step_charge price (curve_step curve j) (pos (filled (widths_of (curve_step curve)) amount j))
 
--- a curve, with the price of its market row and its cleared quantity
-abbrev pub cleared_curve : Millicents → (List Step) → Kw → ClearedCurve
-cleared_curve price curve amount = record { price = price; steps = curve; cleared = amount }
-
+-- of a curve's four steps, with the price of its market row and its cleared quantity
 abbrev pub curve_charges : ClearedCurve → List ℤ
-curve_charges curve = map (curve_charge curve.price curve.steps (nat_abs curve.cleared.0)) (upto 4)
-
--- of the bytes
-abbrev pub curve_from : List ℕ → List ℕ → Curve → ClearedCurve
-curve_from b q k = cleared_curve (millicents ((certificate_of q).price (market_row k))) (curve_steps_of (case_of b) k) (power ((certificate_of q).amount (cleared_quantity k)))
+curve_charges own = map (curve_charge own.price own.curve.steps (nat_abs own.cleared.0)) (upto 4)

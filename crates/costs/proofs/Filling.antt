@@ -1,7 +1,7 @@
 -- Steps filled one after the other: from x kW on, what is left before step j is x less the widths before it, and what
 -- fills it is `filled w x j`. What the first steps are worth, and how large that can be.
 use mathlib.Core.List.{List}
-use mathlib.Core.Path.{◌≡◌, refl, ap, ◌∙◌}
+use mathlib.Core.Path.{◌≡◌, ap, ◌∙◌}
 use Prim.Native.Nat.{ℕ, ◌+◌, ◌*◌, ◌-◌, ◌<◌, ◌≤◌, min}
 use native.Mathlib.Nat.{mul-le-mul}
 use native.Mathlib.Omega.{arith}
@@ -70,13 +70,6 @@ module _ {steps : ℕ → Step} {n widest : ℕ} (known : StepRanges steps n wid
 
   pub steps_size : (m : ℕ) → m ≤ n → nat_abs (steps_worth steps x m) ≤ m * (400000 * widest)
   steps_size m l = upto-size (step_worth steps x) (400000 * widest) m (λ j k. step_size j (omega arith))
-
-  -- what is left, and a step's width, can be filled in
-  pub left_room : (j : ℕ) → x ≤ most_in_steps → UpTo (pos (x - width_of (widths_of steps) j)) most_in_steps
-  left_room j l = record { natural = refl; at_most = omega arith }
-
-  pub width_room : (j : ℕ) → j < n → UpTo (steps j).width.0 most_in_steps
-  width_room j l = record { natural = (known.width j l).natural; at_most = omega (arith, (known.width j l).at_most) }
 
   -- a step's product fits, and its sum with the steps before it
   pub step_room : (j : ℕ) → j < n → ProductRoom (steps j).price.0 (pos (filled (widths_of steps) x j))

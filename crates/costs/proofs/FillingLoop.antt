@@ -1,9 +1,9 @@
--- A loop that fills n steps in order out of x kW and sums what they are worth: before the first turn, in a turn, at the end.
+-- A loop that fills n steps in order out of x kW and sums what they are worth: before the first turn, in a turn.
 -- Its invariant is `StepsFilled`; `LeftAfter` alone serves a loop that makes something else of what fills a step.
 use mathlib.Core.Path.{◌≡◌, refl, ap, ◌∙◌}
 use Prim.Native.Nat.{ℕ, ◌+◌, ◌-◌, ◌<◌, ◌≤◌}
 use lib.IntN.{pos, nat_abs, ◌+ℤ◌, ◌*ℤ◌}
-use Rattle.arith.proofs.LoopSums.{SumTo, no_turn_yet, one_turn_more, last_turn_over}
+use Rattle.arith.proofs.LoopSums.{SumTo, no_turn_yet, one_turn_more}
 use Rattle.market.specs.Case.{width_of}
 use Rattle.market.specs.Cost.{filled}
 use Rattle.market.specs.Records.{power}
@@ -12,11 +12,11 @@ use Rattle.market.specs.declared.Step.{Step}
 use Rattle.case_records.specs.Ranged.{UpTo}
 use Rattle.limits.specs.Widths.{widths_of}
 use Rattle.units.specs.Room.{SumRoom, ProductRoom}
-use Rattle.costs.specs.Steps.{most_in_steps, filling_of, step_worth, steps_worth, StepRanges}
+use Rattle.costs.specs.Steps.{most_in_steps, filling_of, step_worth, StepRanges}
 use Rattle.costs.specs.Worth.{thousands}
 use Rattle.costs.specs.declared.Filled.{Filled}
 use Rattle.costs.specs.declared.ThousandGrains.{ThousandGrains}
-use Rattle.costs.proofs.Filling.{before_steps, next_step, left_room, width_room, step_room, steps_room}
+use Rattle.costs.proofs.Filling.{before_steps, next_step, step_room, steps_room}
 
 -- what the first j steps leave of x
 abbrev pub LeftAfter : (ℕ → Step) → ℕ → ℕ → Kw → Type 0
@@ -35,9 +35,6 @@ none_filled {a} steps n h = (before_steps (widths_of steps) h, no_turn_yet thous
 
 -- ---- in a turn
 module _ {steps : ℕ → Step} {n widest : ℕ} (known : StepRanges steps n widest) (few : n ≤ 16) (small : widest ≤ most_in_steps) (x j : ℕ) {left : Kw} (so_far : LeftAfter steps x j left) (turn : j < n) where
-  pub fill_room : x ≤ most_in_steps → UpTo left.0 most_in_steps × UpTo (steps j).width.0 most_in_steps
-  fill_room l = rw so_far (left_room known few small x j l, width_room known few small x j turn)
-
   module _ {filling : Filled} (e : filling ≡ filling_of (nat_abs left.0) (widths_of steps j)) where
     pub filling_is : filling ≡ (record { part = power (filled (widths_of steps) x j); left = power (x - width_of (widths_of steps) (j + 1)) })
     filling_is = e ∙ rw so_far (next_step (widths_of steps) x j)
@@ -58,7 +55,3 @@ module _ {steps : ℕ → Step} {n widest : ℕ} (known : StepRanges steps n wid
 
       pub one_filled : {next : ThousandGrains} → next ≡ thousands (total.0 +ℤ value.0) → StepsFilled steps x n (j + 1) filling.left next
       one_filled k = (left_more, one_turn_more thousands (λ g. g.0) (λ v. refl) (step_worth steps x) {n = n} {j = j} sum turn worth_is k)
-
--- ---- at the end
-pub all_filled : (steps : ℕ → Step) (x n j : ℕ) {left : Kw} {total : ThousandGrains} → StepsFilled steps x n j left total → n ≤ j → total ≡ thousands (steps_worth steps x n)
-all_filled steps x n j h l = last_turn_over thousands (λ g. g.0) (λ v. refl) (step_worth steps x) {n = n} {j = j} h.1 l

@@ -3,18 +3,19 @@ use mathlib.Core.Path.{refl}
 use mathlib.Core.List.{List}
 use Prim.Native.Nat.{ℕ, ◌*◌, ◌<◌, ◌≤◌}
 use native.Mathlib.Omega.{arith}
-use lib.IntN.{pos, nat_abs, neg_ℤ, ◌+ℤ◌, ◌-ℤ◌}
+use lib.IntN.{pos, nat_abs, ◌+ℤ◌, ◌-ℤ◌}
 use Rattle.arith.specs.Sums.{sum_of, total_of, upto}
-use Rattle.arith.proofs.Magnitudes.{abs-add, abs_neg, abs-sub}
+use Rattle.arith.proofs.Magnitudes.{abs-add, abs-sub}
 use Rattle.arith.proofs.NaturalSums.{upto-size, sum-size}
-use Rattle.market.specs.Case.{Case, Curve, curves, operating, regulating_plus_spinning, regulating, short_term}
+use Rattle.market.specs.Case.{Case, curves}
+use Rattle.market.specs.declared.Curve.{Curve}
+use Rattle.market.specs.declared.Curve.TheVariants.{Operating as operating, RegulatingPlusSpinning as regulating_plus_spinning, Regulating as regulating, ShortTerm as short_term}
 use Rattle.market.specs.CaseFile.{case_of}
 use Rattle.market.specs.UpperBounds.{Schedule, cleared_quantity, energy}
 use Rattle.market.specs.Certificate.{certificate_of}
-use Rattle.market.specs.Records.{record_of, offer_steps_of, curve_steps_of, amounts_of}
-use Rattle.market.specs.Fits.{Fits64}
+use Rattle.market.specs.Records.{record_of, offer_steps_of, amounts_of}
 use Rattle.market.proofs.ScheduleSizes.{amount_of}
-use Rattle.case_records.specs.Ranged.{UpTo, Ranged, RangedSteps, RangedCurve, offer_step}
+use Rattle.case_records.specs.Ranged.{UpTo, Ranged, RangedSteps, offer_step}
 use Rattle.case_records.proofs.Ranged.{valid_resource, valid_steps, curve_ranged}
 use Rattle.units.specs.Room.{SumRoom}
 use Rattle.prices.specs.Standing.{Standing}
@@ -35,7 +36,7 @@ module _ {b q : List ℕ} {r z f : ℕ} (s : Standing b q r z f) where
   pub resource_known : (i : ℕ) → i < r → Ranged (record_of (c.resource i))
   resource_known i l = valid_resource b s.prices.valid i (resource_below s.prices l)
 
-  pub steps_known : (i : ℕ) → i < r → RangedSteps (offer_steps_of (c.resource i))
+  steps_known : (i : ℕ) → i < r → RangedSteps (offer_steps_of (c.resource i))
   steps_known i l = valid_steps b s.prices.valid i (resource_below s.prices l)
 
   pub energy_known : (i : ℕ) → i < r → UpTo (amounts_of x i).energy.0 2000000
@@ -66,14 +67,11 @@ module _ {b q : List ℕ} {r z f : ℕ} (s : Standing b q r z f) where
   resources_room n l = omega (arith, resources_size n (omega arith), resource_size_lem n l, s.prices.case_bytes.counts.most_resources)
 
   -- ---- curves
-  pub curve_known : (k : Curve) → RangedCurve (curve_steps_of c k)
-  curve_known k = curve_ranged (case_ranges s.prices) k
-
   pub cleared_known : (k : Curve) → UpTo (pos (x (cleared_quantity k))) most_in_steps
   cleared_known k = record { natural = refl; at_most = amount_of c (case_ranges s.prices) x s.bounded (cleared_quantity k) tt }
 
   pub curve_size : (k : Curve) → nat_abs (curve_value c x k) ≤ 12800000000000
-  curve_size k = rw (← (curve_value_is c x k)) (steps_size (curve_ranges (curve_known k)) (omega arith) (omega arith) (x (cleared_quantity k)) 4 (omega arith))
+  curve_size k = rw (← (curve_value_is c x k)) (steps_size (curve_ranges (curve_ranged (case_ranges s.prices) k)) (omega arith) (omega arith) (x (cleared_quantity k)) 4 (omega arith))
 
   -- of two and of three
   pub two_curves_size : nat_abs (curve_value c x regulating +ℤ curve_value c x short_term) ≤ 25600000000000
@@ -87,11 +85,8 @@ module _ {b q : List ℕ} {r z f : ℕ} (s : Standing b q r z f) where
   curves_size = omega (arith, sum-size (curve_value c x) curves, curve_size operating, curve_size regulating_plus_spinning, curve_size regulating, curve_size short_term)
 
   -- ---- all
-  pub curves_fit : Fits64 (sum_of (curve_value c x) curves)
-  curves_fit = omega (arith, curves_size)
-
-  pub cost_room : SumRoom (sum_of (resource_worth c x) (upto r)) (neg_ℤ (sum_of (curve_value c x) curves))
-  cost_room = omega (arith, resources_size r (omega arith), curves_size, abs_neg (sum_of (curve_value c x) curves), s.prices.case_bytes.counts.most_resources)
+  pub cost_room : SumRoom (sum_of (resource_worth c x) (upto r)) (sum_of (curve_value c x) curves)
+  cost_room = omega (arith, resources_size r (omega arith), curves_size, s.prices.case_bytes.counts.most_resources)
 
   pub grains_room : nat_abs (sum_of (resource_worth c x) (upto r) -ℤ sum_of (curve_value c x) curves) ≤ 1000000000000000
   grains_room =

@@ -11,14 +11,15 @@ use Rattle.arith.specs.Sums.{sum_of, upto, across}
 use Rattle.arith.proofs.Order.{neg-*ℤ}
 use Rattle.arith.proofs.Magnitudes.{abs-add, abs-mul}
 use Rattle.arith.proofs.Sums.{sum-ext, sum-neg, sum-map, sum-across, append_sums}
-use Rattle.market.specs.Case.{Case, Curve, operating, regulating_plus_spinning, regulating, short_term, curves, energy_steps, curve_steps}
+use Rattle.market.specs.Case.{Case, curves, energy_steps, curve_steps}
+use Rattle.market.specs.declared.Curve.{Curve}
+use Rattle.market.specs.declared.Curve.TheVariants.{Operating as operating, RegulatingPlusSpinning as regulating_plus_spinning, Regulating as regulating, ShortTerm as short_term}
 use Rattle.market.specs.UpperBounds.{Schedule, provided_quantity, cleared_quantity, energy, reserve_services}
 use Rattle.market.specs.Cost.{priced_energy_step, priced_whole, priced_curve_step, priced_of, curve_priced, priced, service_price, offer, part, cost}
 use Rattle.market.specs.Records.{offer_step_of, offer_steps_of, curve_step_of, curve_steps_of, reserve_offers_of, record_of, amounts_of}
 use Rattle.market.specs.declared.ReserveOffers.{ReserveOffers}
 use Rattle.case_records.specs.Ranged.{offer_step, curve_step, RangedOffers}
 use Rattle.case_records.proofs.Ranged.{offer_step_is, curve_step_is}
-use Rattle.units.specs.Room.{ProductRoom}
 use Rattle.prices.specs.Standing.{SmallAmounts}
 use Rattle.costs.specs.Steps.{steps_worth}
 use Rattle.costs.specs.Worth.{worth_of, resource_worth, curve_value, reserves_worth}
@@ -26,9 +27,6 @@ use Rattle.costs.proofs.Filling.{steps_worth_is}
 
 -- ---- a price and an amount of a resource
 module _ (p a : ℤ) (price : nat_abs p ≤ 400000) (amount : nat_abs a ≤ 2000000) where
-  pub offer_room : ProductRoom p a
-  offer_room = record { left = omega arith; right = omega arith; product = omega (arith, mul-le-mul price amount) }
-
   pub offer_size : nat_abs (p *ℤ a) ≤ 800000000000
   offer_size = omega (arith, abs-mul p a, mul-le-mul price amount)
 

@@ -3,7 +3,8 @@ use Rattle.market.specs.declared.PerService.{PerService}
 use Rattle.market.specs.declared.Kw.{Kw}
 use Rattle.std.specs.Prelude.{ℕ, ℤ, pos, ◌*ℤ◌, ◌+ℤ◌}
 use Rattle.arith.specs.Sums.{sum_of, upto}
-use Rattle.market.specs.Case.{Case, Curve, curve_steps}
+use Rattle.market.specs.Case.{Case, curve_steps}
+use Rattle.market.specs.declared.Curve.{Curve}
 use Rattle.market.specs.UpperBounds.{Schedule}
 use Rattle.market.specs.Cost.{Priced, priced_curve_step, priced_of, offer, part}
 use Rattle.market.specs.declared.ReserveOffers.{ReserveOffers}

@@ -3,25 +3,41 @@
 // are given at their prices is summed in `valuations`, with what they add to the bound.
 #![tactic(auto)]
 
-ghost use Rattle.std.specs.Prelude.{◌≡◌, ◌<◌, ◌≤◌, pos, nat_abs, neg_ℤ, ◌+ℤ◌, ◌*ℤ◌};
+ghost use Rattle.std.specs.Prelude.{◌≡◌, refl, ◌<◌, ◌≤◌, pos, nat_abs, ◌*ℤ◌};
 ghost use Rattle.arith.specs.Sums.{sum_of, upto};
 ghost use Rattle.market.specs.Case.{curves};
 ghost use Rattle.market.specs.Cost.{cost};
 ghost use Rattle.market.specs.Records.{grains};
-ghost use Rattle.market.specs.Fits.{Fits64};
-ghost use Rattle.case_records.specs.Ranged.{UpTo, RangedCurve, RangedOffers, curve_step};
-ghost use Rattle.units.specs.Room.{SumRoom, ProductRoom};
-ghost use Rattle.prices.specs.Standing.{SmallAmounts};
+ghost use Rattle.case_records.specs.Ranged.{UpTo, RangedOffers, curve_step};
+ghost use Rattle.units.specs.Room.{ProductRoom};
 ghost use Rattle.costs.specs.Steps.{most_in_steps, filling_of, steps_worth};
 ghost use Rattle.costs.specs.Worth.{thousands, resource_worth, curve_value, reserves_worth};
 ghost use Rattle.prices.specs.PricedCase.{the_case, the_amounts};
 
-use market::{Amounts, Cents, CurveSteps, Grains, Kw, ReserveOffers};
-use prices::BoundedCase;
+use limits::CurveInRange;
+use market::{Cents, Curve, Grains, Kw, ReserveOffers, Unit};
+use prices::{BoundedAmounts, BoundedCase};
+use units::sum;
 
 // Amounts at prices in cents: a cent per MWh times a kW is a thousand grains.
 #[derive(Clone, Copy, Drop)]
 pub struct ThousandGrains(pub i64);
+
+impl Unit for ThousandGrains {
+    ghost number = { λ a. a.0 };
+
+    ghost of = { λ v. record { 0 = v } };
+
+    ghost number_of = { λ v. refl };
+
+    fn of(figure: i64) -> ThousandGrains {
+        ThousandGrains(figure)
+    }
+
+    fn number(self) -> i64 {
+        self.0
+    }
+}
 
 // A price in cents times an amount.
 pub fn worth(a: Cents, b: Kw) -> ThousandGrains
@@ -29,20 +45,6 @@ pub fn worth(a: Cents, b: Kw) -> ThousandGrains
     ensures { result ≡ thousands (a.0 *ℤ b.0) }
 {
     ThousandGrains(a.0 * b.0)
-}
-
-pub fn sum(a: ThousandGrains, b: ThousandGrains) -> ThousandGrains
-    requires { SumRoom a.0 b.0 }
-    ensures { result ≡ thousands (a.0 +ℤ b.0) }
-{
-    ThousandGrains(a.0 + b.0)
-}
-
-fn negative(a: ThousandGrains) -> ThousandGrains
-    requires { Fits64 a.0 }
-    ensures { result ≡ thousands (neg_ℤ a.0) }
-{
-    ThousandGrains(0 - a.0)
 }
 
 fn in_grains(a: ThousandGrains) -> Grains
@@ -73,14 +75,16 @@ pub fn fill(left: Kw, width: Kw) -> Filled
     }
 }
 
-// The value of a cleared quantity: the prices of the steps of its curve that it fills.
-fn curve_value(curve: CurveSteps, cleared: Kw) -> ThousandGrains
-    requires { RangedCurve curve × UpTo cleared.0 most_in_steps }
-    ensures { result ≡ thousands (steps_worth (curve_step curve) (nat_abs cleared.0) 4) }
+// The value of a cleared quantity: the prices of the steps of its curve that it fills. `valuations::steps_value` fills an offer's
+// ten steps likewise, and takes of each what it adds to the bound besides: one function of both would have to say of each step, by
+// a closure's `pre` and `post`, what each of the two says in one clause.
+fn curve_value(curve: CurveInRange, cleared: Kw) -> ThousandGrains
+    requires { UpTo cleared.0 most_in_steps }
+    ensures { result ≡ thousands (steps_worth (curve_step curve.steps) (nat_abs cleared.0) 4) }
 {
     let mut value = ThousandGrains(0);
     let mut left = cleared;
-    for step in &curve {
+    for step in &curve.steps {
         let filled = fill(left, step.width);
         value = sum(value, worth(step.price, filled.part));
         left = filled.left;
@@ -91,10 +95,11 @@ fn curve_value(curve: CurveSteps, cleared: Kw) -> ThousandGrains
 // ---- the cost
 
 // g, c and o at their prices; s is priced 0.
-pub fn reserves_worth(offers: ReserveOffers, amounts: Amounts) -> ThousandGrains
-    requires { RangedOffers offers × SmallAmounts amounts }
-    ensures { result ≡ thousands (reserves_worth offers amounts) }
+pub fn reserves_worth(offers: ReserveOffers, own: BoundedAmounts) -> ThousandGrains
+    requires { RangedOffers offers }
+    ensures { result ≡ thousands (reserves_worth offers own.amounts) }
 {
+    let amounts = own.amounts;
     let regulation = worth(offers.regulating, amounts.regulation);
     let contingency = worth(offers.contingency, amounts.contingency);
     let short_term = worth(offers.off_line_short_term, amounts.off_line_short_term);
@@ -106,13 +111,13 @@ fn curves_value(bounded: &BoundedCase<'_>) -> ThousandGrains
     ensures { result ≡ thousands (sum_of (curve_value (the_case bounded.now.priced) (the_amounts bounded.now.priced)) curves) }
 {
     let cleared = bounded.priced.certificate.cleared();
-    let operating = curve_value(bounded.priced.case.curve(0), cleared.operating);
+    let operating = curve_value(bounded.priced.curve(Curve::Operating), cleared.operating);
     let spinning = curve_value(
-        bounded.priced.case.curve(1),
+        bounded.priced.curve(Curve::RegulatingPlusSpinning),
         cleared.regulating_plus_spinning,
     );
-    let regulating = curve_value(bounded.priced.case.curve(2), cleared.regulating);
-    let short_term = curve_value(bounded.priced.case.curve(3), cleared.short_term);
+    let regulating = curve_value(bounded.priced.curve(Curve::Regulating), cleared.regulating);
+    let short_term = curve_value(bounded.priced.curve(Curve::ShortTerm), cleared.short_term);
     sum(operating, sum(spinning, sum(regulating, short_term)))
 }
 
@@ -122,6 +127,5 @@ pub fn cost(bounded: &BoundedCase<'_>, resources: ThousandGrains) -> Grains
     ensures { result ≡ grains (cost (the_case bounded.now.priced) (the_amounts bounded.now.priced)) }
 {
     let value = curves_value(bounded);
-    let taken_off = negative(value);
-    in_grains(sum(resources, taken_off))
+    in_grains(units::difference(resources, value))
 }

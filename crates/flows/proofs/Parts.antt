@@ -20,9 +20,6 @@ pub energy_range : {q : List ℕ} {r : ℕ} → EnergyBounded q r → (i : ℕ) 
 energy_range e i h = record { natural = refl; at_most = e.most i h }
 
 module _ (part : ℕ → ℤ) (q : List ℕ) where
-  pub none_kept : (parts : List ℤ) → Kept part q 0 parts
-  none_kept parts = record { long = omega arith; each = λ i h. absurd (omega arith) }
-
   -- one more
   pub one_kept : (i : ℕ) (parts : List ℤ) → i < length parts → Kept part q i parts → Kept part q (i + 1) (set parts i (part (energy_of q i)))
   one_kept i parts fit kept =

@@ -9,11 +9,15 @@ ghost use Rattle.market.specs.InWords.{kw_of};
 ghost use Rattle.market.specs.Records.{watts};
 ghost use Rattle.case_records.specs.Ranged.{UpTo};
 ghost use Rattle.flows.specs.Parts.{range32, most_energy, EnergyBounded, high_unit, most_part, EnergyParts};
-ghost use Rattle.prices.specs.PricedCase.{the_case, the_amounts, certificate_bytes};
+ghost use Rattle.prices.specs.PricedCase.{the_case, the_amounts};
 
-use certificate_records::CertificateReader;
+use certificate_records::SizedCertificate;
 use market::{Kw, Watts};
 use prices::BoundedCase;
+
+mod energies;
+
+pub use energies::Energies;
 
 // An energy is its high part times this, and its low part.
 const HIGH_UNIT: u64 = 2048;
@@ -26,6 +30,7 @@ fn unsigned(e: Kw) -> u64
     requires { UpTo e.0 most_energy }
     ensures { result ≡ nat_abs e.0 }
 {
+    // of a figure that is not negative, which `From` does not have
     e.0 as u64
 }
 
@@ -36,8 +41,9 @@ fn narrow(part: u64) -> i16
     part as i16
 }
 
-// The parts of each resource's energy, at its own place of two lent buffers.
-pub fn write_energies(certificate: &CertificateReader<'_>, high: &mut [i16], low: &mut [i16])
+// The parts of each resource's energy, at its own place of two lent buffers. An array of pairs was proved and measured on 64
+// resources: 467 instructions more a check and 858 more for the charges, past the bars that two arrays meet.
+pub fn write_energies(certificate: &SizedCertificate<'_>, high: &mut [i16], low: &mut [i16])
     requires bounded { EnergyBounded certificate.now.bytes.now certificate.now.resources }
     requires r_in_bounds { (certificate.now.resources ≤ length high.old) × (certificate.now.resources ≤ length low.old) }
     ensures { EnergyParts certificate.now.bytes.now certificate.now.resources high.new low.new }
@@ -59,6 +65,7 @@ fn factor_at(bounded: &BoundedCase<'_>, g: usize, i: usize) -> i32
     ensures { result ≡ (the_case bounded.now.priced).shift_factor g i }
 {
     let factor = bounded.priced.case.shift_factor(g, i);
+    // of a factor in range, which `From` does not have
     factor.0 as i32
 }
 
@@ -67,28 +74,27 @@ fn added(sum: i32, factor: i32, part: i16) -> i32
     requires { nat_abs sum + nat_abs factor * nat_abs part < range32 }
     ensures { result ≡ sum +ℤ factor *ℤ part }
 {
-    sum + factor * part as i32
+    sum + factor * i32::from(part)
 }
 
 // Both sums together.
 fn joined(high: i32, low: i32) -> Watts
     ensures { result ≡ watts (pos high_unit *ℤ high +ℤ low) }
 {
-    Watts(SIGNED_HIGH_UNIT * high as i64 + low as i64)
+    Watts(SIGNED_HIGH_UNIT * i64::from(high) + i64::from(low))
 }
 
 // What the resources make flow.
-pub fn flow(bounded: &BoundedCase<'_>, g: usize, high: &[i16], low: &[i16]) -> Watts
-    requires flowgate { g < bounded.now.priced.case.flowgates }
-    requires energy_parts { EnergyParts (certificate_bytes bounded.now.priced) bounded.now.priced.case.resources high.now low.now }
-    ensures { result ≡ watts (sum_of (λ i. (the_case bounded.now.priced).shift_factor g i *ℤ kw_of (the_amounts bounded.now.priced) i energy) (upto bounded.now.priced.case.resources)) }
+pub fn flow(energies: &Energies<'_>, g: usize) -> Watts
+    requires { g < energies.now.bounded.priced.case.flowgates }
+    ensures { result ≡ watts (sum_of (λ i. (the_case energies.now.bounded.priced).shift_factor g i *ℤ kw_of (the_amounts energies.now.bounded.priced) i energy) (upto energies.now.bounded.priced.case.resources)) }
 {
     let mut highs: i32 = 0;
     let mut lows: i32 = 0;
-    for i in 0..bounded.priced.case.resources {
-        let factor = factor_at(bounded, g, i);
-        highs = added(highs, factor, high[i]);
-        lows = added(lows, factor, low[i]);
+    for i in 0..energies.bounded.priced.case.resources {
+        let factor = factor_at(&energies.bounded, g, i);
+        highs = added(highs, factor, energies.high[i]);
+        lows = added(lows, factor, energies.low[i]);
     }
     joined(highs, lows)
 }

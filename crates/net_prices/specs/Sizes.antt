@@ -1,6 +1,6 @@
 -- How large prices are from which net prices are made, and net prices, so that sums of them fit. The figures are those of
 -- `market/specs/Sizes.antt`; here they are said of the records that the code reads and makes.
-use Rattle.std.specs.Prelude.{◌≡◌, ℕ, ◌+◌, ◌<◌, ◌≤◌, ℤ, nat_abs}
+use Rattle.std.specs.Prelude.{◌+◌, ◌<◌, ◌≤◌, nat_abs}
 use Rattle.market.specs.declared.Millicents.{Millicents}
 use Rattle.market.specs.declared.Cents.{Cents}
 use Rattle.market.specs.declared.LimitPrices.{LimitPrices}
@@ -11,16 +11,13 @@ use Rattle.market.specs.Sizes.{most_cents, most_price, most_lmp, most_regulating
 use Rattle.prices.specs.declared.ZonePrices.{ZonePrices}
 use Rattle.market.specs.declared.PerService.{PerService}
 
--- m is v thousandths of a cent, and no more than `most`
-pub record Price (price : Millicents) (v : ℤ) (most : ℕ) : Type 0 where
-  pub is : price.0 ≡ v
-  pub size : nat_abs price.0 ≤ most
-
--- an offer, in cents
+-- an offer, in cents. It stands in four clauses: steps and a resource's offers hold plain cents, so that a type with this fact would be
+-- made at each of the seven calls that hand one over
 abbrev pub SmallOffer : Cents → Type 0
 SmallOffer p = nat_abs p.0 ≤ most_cents
 
--- the price of a row, in thousandths of a cent
+-- the price of a row, in thousandths of a cent. A clause and no type says it: `market_prices` hands out four of them as one record that
+-- equals `reserve_prices_of`; of prices with this fact it would be another record, with an equation for each of the four
 abbrev pub SmallPrice : Millicents → Type 0
 SmallPrice p = nat_abs p.0 ≤ most_price
 
@@ -30,6 +27,8 @@ pub record SmallOffers (offers : ReserveOffers) : Type 0 where
   pub contingency : SmallOffer offers.contingency
   pub off_line_short_term : SmallOffer offers.off_line_short_term
 
+-- A clause and no type says it: of the three that ask it one hands what it was given to another, and two calls prove it (`nets_for`,
+-- `valuations::resource_value`); a type would be made at these two and opened in all three.
 pub record SmallLimitPrices (prices : LimitPrices) : Type 0 where
   pub max_with_reserve : SmallPrice prices.max_with_reserve
   pub max_with_short_term : SmallPrice prices.max_with_short_term

@@ -9,7 +9,7 @@ use Rattle.arith.specs.Sums.{sum_of, upto}
 use Rattle.arith.proofs.Magnitudes.{abs-mul}
 use Rattle.arith.proofs.NaturalSums.{upto-size}
 use Rattle.market.specs.CaseFile.{case_of}
-use Rattle.market.specs.Case.{operating, regulating_plus_spinning, regulating, short_term}
+use Rattle.market.specs.declared.Curve.TheVariants.{Operating as operating, RegulatingPlusSpinning as regulating_plus_spinning, Regulating as regulating, ShortTerm as short_term}
 use Rattle.market.specs.UpperBounds.{Service, energy, regulation, contingency, on_line_short_term, off_line_short_term, provided_quantity}
 use Rattle.market.specs.Rows.{balance_row, market_row, zone_row, flowgate_row}
 use Rattle.market.specs.Certificate.{Prices, certificate_of}

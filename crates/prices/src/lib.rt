@@ -6,9 +6,11 @@ ghost use Rattle.prices.specs.ZonePrices.{SmallPrices, added_prices};
 
 use market::{Millicents, ReservePrices};
 
+mod bounded_amounts;
 mod bounded_case;
 mod priced_case;
 
+pub use bounded_amounts::BoundedAmounts;
 pub use bounded_case::BoundedCase;
 pub use priced_case::PricedCase;
 

@@ -4,14 +4,15 @@ ghost use Rattle.prices.specs.Standing.{PricesStand};
 ghost use Rattle.prices.specs.Unique.{unique};
 
 use crate::ZonePrices;
-use case_reader::CaseReader;
-use certificate_records::CertificateReader;
-use market::{Cents, Millicents};
+use case_reader::SizedCase;
+use certificate_records::SizedCertificate;
+use limits::{CurveInRange, OfferInRange};
+use market::{Cents, Counts, Curve, Millicents};
 
 #[derive(Clone, Copy)]
 pub struct PricedCase<'a> {
-    pub case: CaseReader<'a>,
-    pub certificate: CertificateReader<'a>,
+    pub case: SizedCase<'a>,
+    pub certificate: SizedCertificate<'a>,
     pub ghost prices_stand: { PricesStand case.bytes.now certificate.bytes.now case.resources case.zones case.flowgates } by { Prim.hlevel unique },
 }
 
@@ -19,28 +20,40 @@ impl<'a> PricedCase<'a> {
     ghost use Rattle.arith.specs.Sums.{sum_of, upto};
     ghost use Rattle.market.specs.Rows.{flowgate_row};
     ghost use Rattle.market.specs.Prices.{lmp_of};
-    ghost use Rattle.market.specs.Records.{millicents};
+    ghost use Rattle.market.specs.Records.{offer_steps_of, curve_steps_of, millicents};
     ghost use Rattle.prices.specs.ZonePrices.{zone_prices_of};
     ghost use Rattle.prices.specs.PricedCase.{the_case, the_prices};
     ghost use Rattle.prices.specs.Figures.{FlowgateRoom, less_flowgate};
 
-    pub fn new(
-        bytes: &'a [u8],
-        entries: &'a [u8],
-        resources: usize,
-        zones: usize,
-        flowgates: usize,
-    ) -> Self
-        requires { PricesStand bytes.now entries.now resources zones flowgates }
+    pub fn new(bytes: &'a [u8], entries: &'a [u8], n: Counts) -> Self
+        requires { PricesStand bytes.now entries.now n.resources n.zones n.flowgates }
         ensures case { result.case.bytes ≡ bytes.entry }
         ensures certificate { result.certificate.bytes ≡ entries.entry }
-        ensures resources { result.case.resources ≡ resources }
-        ensures zones { result.case.zones ≡ zones }
-        ensures flowgates { result.case.flowgates ≡ flowgates }
+        ensures resources { result.case.resources ≡ n.resources }
+        ensures zones { result.case.zones ≡ n.zones }
+        ensures flowgates { result.case.flowgates ≡ n.flowgates }
     {
         PricedCase {
-            case: CaseReader::new(bytes, resources, zones, flowgates),
-            certificate: CertificateReader::new(entries, resources, zones, flowgates),
+            case: SizedCase::new(bytes, n),
+            certificate: SizedCertificate::new(entries, n),
+        }
+    }
+
+    // The energy steps that resource i offers.
+    pub fn offer_steps(&self, i: usize) -> OfferInRange
+        requires { i < self.now.case.resources }
+        ensures { result.steps ≡ offer_steps_of ((the_case self.now).resource i) }
+    {
+        OfferInRange {
+            steps: self.case.offer_steps(i),
+        }
+    }
+
+    pub fn curve(&self, curve: Curve) -> CurveInRange
+        ensures { result.steps ≡ curve_steps_of (the_case self.now) curve }
+    {
+        CurveInRange {
+            steps: self.case.curve(curve),
         }
     }
 
@@ -84,7 +97,8 @@ impl<'a> PricedCase<'a> {
         }
     }
 
-    // The LMP of each resource, in order. A flowgate of price 0 is passed over: it takes nothing.
+    // The LMP of each resource, in order. A flowgate of price 0 is passed over: it takes nothing. They are numbers, not records of
+    // `Millicents`, since `price_list` lends the C host's own buffer here, which holds signed 64-bit numbers.
     pub fn write_lmps(&self, out: &mut [i64])
         requires { self.now.case.resources ≤ length out.old }
         ensures { out.new ≡ map (lmp_of (the_case self.now) (the_prices self.now)) (upto self.now.case.resources) ++ drop self.now.case.resources out.old }

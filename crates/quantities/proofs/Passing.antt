@@ -5,7 +5,6 @@ use mathlib.Core.Path.{◌≡◌, refl, sym, ◌∙◌, ap, subst}
 use mathlib.Core.List.{List, [], ◌∷◌, ◌++◌}
 use Prim.Native.Nat.{ℕ}
 use native.Mathlib.Omega.{arith}
-use lib.IntN.{ℤ}
 use Rattle.arith.specs.Sums.{all}
 use Rattle.arith.proofs.Lists.{each_split}
 use Rattle.market.specs.declared.Refusal.{Refusal}
@@ -25,6 +24,7 @@ use Rattle.case_records.proofs.Places.{valid_bytes}
 use Rattle.certificate_form.proofs.Forms.{form_bytes}
 use Rattle.prices.specs.Standing.{PricesStand, Standing}
 use Rattle.capabilities.specs.Kept.{Kept}
+use Rattle.capabilities.specs.declared.Capability.{Capability}
 use Rattle.quantities.specs.Filing.{FiledWith, Decided}
 
 -- ---- a stage after an earlier one: the answer of the grounds gs, then of those that follow
@@ -69,10 +69,10 @@ priced {b} {q} h prices =
     }
 
 -- ---- what is decided of each resource is kept once it is written; where something is refused nothing need be
-pub undecided : {b : List ℕ} {s : Result Counts Refusal} {w : Refusal} {k : List ℤ} → s ≡ Err w → Decided b s k
+pub undecided : {b : List ℕ} {s : Result Counts Refusal} {w : Refusal} {k : List Capability} → s ≡ Err w → Decided b s k
 undecided h = record { known = λ n e. absurd (let z : ◌≡◌ {A = ℕ} 0 1 = cc in omega arith) }
 
-pub decided : {b : List ℕ} {k : List ℤ} (n : Counts) (s : Result Counts Refusal) (f : Finding) → Kept (case_of b) n.resources k → s ≡ answered n f → Decided b s k
+pub decided : {b : List ℕ} {k : List Capability} (n : Counts) (s : Result Counts Refusal) (f : Finding) → Kept (case_of b) n.resources k → s ≡ answered n f → Decided b s k
 decided {b} {k} n s clear h e = record { known = λ m o. let same : n ≡ m = cc in rw (← same) h }
 decided {b} {k} n s (holds w) h e = undecided e
 

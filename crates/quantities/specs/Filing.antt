@@ -1,6 +1,6 @@
 -- What is known of a case and a certificate past grounds 1 to 11, and past 1 to 13.
 use Rattle.market.specs.declared.Refusal.{Refusal}
-use Rattle.std.specs.Prelude.{Result, Ok, List, ◌≡◌, ℕ, ℤ}
+use Rattle.std.specs.Prelude.{Result, Ok, List, ◌≡◌, ℕ}
 use Rattle.market.specs.declared.Counts.{Counts}
 use Rattle.market.specs.CaseFile.{case_of}
 use Rattle.market.specs.Records.{counts_in}
@@ -8,6 +8,7 @@ use Rattle.market.specs.Outcome.{Valid}
 use Rattle.case_records.specs.Places.{CaseBytes}
 use Rattle.certificate_records.specs.CertificateBytes.{CertificateBytes}
 use Rattle.capabilities.specs.Kept.{Kept}
+use Rattle.capabilities.specs.declared.Capability.{Capability}
 
 -- 1 to 11 have passed with these counts: a valid case, and a certificate of its size
 pub record FiledWith (b q : List ℕ) (n : Counts) : Type 0 where
@@ -17,5 +18,5 @@ pub record FiledWith (b q : List ℕ) (n : Counts) : Type 0 where
   pub valid : Valid b
 
 -- what is decided of each resource is kept, where the stages have passed
-pub record Decided (b : List ℕ) (stage : Result Counts Refusal) (kept : List ℤ) : Type 0 where
+pub record Decided (b : List ℕ) (stage : Result Counts Refusal) (kept : List Capability) : Type 0 where
   pub known : (n : Counts) → stage ≡ Ok n → Kept (case_of b) n.resources kept

@@ -5,27 +5,27 @@
 ghost use Rattle.std.specs.Prelude.{◌≡◌, map, ℕ, ◌+◌, ◌<◌, ◌≤◌, leb, length, IfOk};
 ghost use Rattle.arith.specs.Sums.{upto, across};
 ghost use Rattle.market.specs.declared.Refusal.TheVariants.{AboveBound};
-ghost use Rattle.market.specs.Case.{Case, curves, curve_numbered};
+ghost use Rattle.market.specs.Case.{Case};
 ghost use Rattle.market.specs.Availability.{on_line};
+ghost use Rattle.market.specs.CaseCheck.{most_resources};
 ghost use Rattle.market.specs.CaseFile.{case_of};
 ghost use Rattle.market.specs.UpperBounds.{cleared_quantity, provided_quantity, services, Schedule, upper_bound};
 ghost use Rattle.market.specs.Certificate.{certificate_of};
 ghost use Rattle.market.specs.Records.{power, counts_in, offer_steps_of, amounts_of, cleared_of};
 ghost use Rattle.market.specs.Refusals.{first_of, first_failing, found_at};
-ghost use Rattle.market.specs.Outcome.{Valid, within_bound, price_ground, bound_ground, grounds_to11, grounds_to13};
+ghost use Rattle.market.specs.Outcome.{within_bound, price_ground, bound_ground, grounds_to11, grounds_to13};
 ghost use Rattle.market.specs.Refusals.{answered};
-ghost use Rattle.case_records.specs.Ranged.{RangedSteps};
-ghost use Rattle.case_reader.specs.Reader.{case_in};
 ghost use Rattle.certificate_records.specs.Reader.{certificate_in};
 ghost use Rattle.limits.specs.Together.{reserve_bounds_of};
 ghost use Rattle.prices.specs.PricedCase.{the_case};
-ghost use Rattle.capabilities.specs.Kept.{most_numbers, Kept};
+ghost use Rattle.capabilities.specs.Kept.{Kept};
 ghost use Rattle.quantities.specs.Filing.{FiledWith, Decided};
 ghost use Rattle.quantities.specs.Places.{first_provided};
 
-use case_reader::CaseReader;
-use limits::ReserveBounds;
-use market::{Amounts, CURVES, Counts, CurveAmounts, Kw, OfferSteps, Refusal, SERVICES};
+use capabilities::Capability;
+use certificate_records::SizedCertificate;
+use limits::{OfferInRange, ReserveBounds};
+use market::{Amounts, CURVES, Counts, Curve, CurveAmounts, Kw, Refusal, SERVICES};
 use prices::PricedCase;
 
 // Places have 32 bits. Those of resources begin behind the cleared quantities, one for each curve.
@@ -35,32 +35,29 @@ const PLACES_A_RESOURCE: u32 = SERVICES as u32;
 
 // ---- upper bounds
 
-// Of the cleared quantity of the curve of number k.
-fn curve_bound_at(case: &CaseReader<'_>, k: usize) -> Kw
-    requires { Valid case.now.bytes.now × (k < length curves) }
-    ensures { result ≡ power (upper_bound (case_in case.now) (cleared_quantity (curve_numbered k))) }
+// Of a curve's cleared quantity.
+fn curve_bound_at(priced: &PricedCase<'_>, curve: Curve) -> Kw
+    ensures { result ≡ power (upper_bound (the_case priced.now) (cleared_quantity curve)) }
 {
-    limits::curve_bound(case.curve(k))
+    limits::curve_bound(priced.curve(curve))
 }
 
-fn curve_bounds(case: &CaseReader<'_>) -> CurveAmounts
-    requires { Valid case.now.bytes.now }
-    ensures { result ≡ cleared_of (upper_bound (case_in case.now)) }
+fn curve_bounds(priced: &PricedCase<'_>) -> CurveAmounts
+    ensures { result ≡ cleared_of (upper_bound (the_case priced.now)) }
 {
     CurveAmounts {
-        operating: curve_bound_at(case, 0),
-        regulating_plus_spinning: curve_bound_at(case, 1),
-        regulating: curve_bound_at(case, 2),
-        short_term: curve_bound_at(case, 3),
+        operating: curve_bound_at(priced, Curve::Operating),
+        regulating_plus_spinning: curve_bound_at(priced, Curve::RegulatingPlusSpinning),
+        regulating: curve_bound_at(priced, Curve::Regulating),
+        short_term: curve_bound_at(priced, Curve::ShortTerm),
     }
 }
 
 // Of a resource's five quantities.
-fn service_bounds(on: bool, reserves: ReserveBounds, steps: OfferSteps) -> Amounts
-    requires { RangedSteps steps }
-    ensures { (c : Case) (i : ℕ) → on ≡ on_line (c.resource i) → reserves ≡ reserve_bounds_of c (c.resource i) → steps ≡ offer_steps_of (c.resource i) → result ≡ amounts_of (upper_bound c) i }
+fn service_bounds(on: bool, reserves: ReserveBounds, offer: OfferInRange) -> Amounts
+    ensures { (c : Case) (i : ℕ) → on ≡ on_line (c.resource i) → reserves ≡ reserve_bounds_of c (c.resource i) → offer.steps ≡ offer_steps_of (c.resource i) → result ≡ amounts_of (upper_bound c) i }
 {
-    let energy = limits::energy_bound(on, steps);
+    let energy = limits::energy_bound(on, offer);
     let regulation = reserves.regulation;
     let contingency = reserves.contingency;
     let on_line_short_term = reserves.on_line_short_term;
@@ -93,16 +90,14 @@ fn provided_above(given: Amounts, most: Amounts, place: u32) -> Option<u32>
     )
 }
 
-fn first_provided_above(priced: &PricedCase<'_>, kept: &[i32]) -> Option<u32>
+// These two ask for `Kept` and take no `KeptCase`: that one is past 13, which is tested here.
+fn first_provided_above(priced: &PricedCase<'_>, kept: &[Capability]) -> Option<u32>
     requires { Kept (the_case priced.now) priced.now.case.resources kept.now }
     ensures { found_at AboveBound result ≡ first_failing (within_bound (the_case priced.now) (certificate_in priced.now.certificate)) AboveBound first_provided (across (λ i. map (provided_quantity i) services) (upto priced.now.case.resources)) }
 {
     for i in 0..priced.case.resources {
-        let most = service_bounds(
-            capabilities::on_line_at(kept, i),
-            capabilities::bounds_at(kept, i),
-            priced.case.offer_steps(i),
-        );
+        let own = kept[i];
+        let most = service_bounds(own.on_line, own.bounds, priced.offer_steps(i));
         let given = priced.certificate.amounts(i);
         let first = FIRST_PROVIDED + i as u32 * PLACES_A_RESOURCE;
         if let Some(place) = provided_above(given, most, first) {
@@ -112,12 +107,12 @@ fn first_provided_above(priced: &PricedCase<'_>, kept: &[i32]) -> Option<u32>
     None
 }
 
-fn first_above(priced: &PricedCase<'_>, kept: &[i32]) -> Option<u32>
+fn first_above(priced: &PricedCase<'_>, kept: &[Capability]) -> Option<u32>
     requires { Kept (the_case priced.now) priced.now.case.resources kept.now }
     ensures { found_at AboveBound result ≡ bound_ground (the_case priced.now) (certificate_in priced.now.certificate) }
 {
     let given = priced.certificate.cleared();
-    let most = curve_bounds(&priced.case);
+    let most = curve_bounds(priced);
     if let Some(place) = units::first_short(most, given, 1) {
         return Some(place);
     }
@@ -144,15 +139,20 @@ fn prices_stage(b: &[u8], q: &[u8], n: Counts) -> Result<Counts, Refusal>
     requires { FiledWith b.now q.now n }
     ensures { result ≡ answered n (price_ground (case_of b.now) (certificate_of q.now)) }
 {
-    if !certificate_form::prices_right(q, n) {
+    let certificate = SizedCertificate::new(q, n);
+    if !certificate_form::prices_right(&certificate) {
         return Err(Refusal::PriceRange);
     }
     Ok(n)
 }
 
 // 13. What is decided of each resource is left in `kept`.
-fn quantities_stage(priced: &PricedCase<'_>, n: Counts, kept: &mut [i32]) -> Result<Counts, Refusal>
-    requires { most_numbers ≤ length kept.old }
+fn quantities_stage(
+    priced: &PricedCase<'_>,
+    n: Counts,
+    kept: &mut [Capability],
+) -> Result<Counts, Refusal>
+    requires { most_resources ≤ length kept.old }
     ensures answer { result ≡ answered n (bound_ground (the_case priced.now) (certificate_in priced.now.certificate)) }
     ensures decided { Kept (the_case priced.now) priced.now.case.resources kept.new }
 {
@@ -165,8 +165,8 @@ fn quantities_stage(priced: &PricedCase<'_>, n: Counts, kept: &mut [i32]) -> Res
 
 // 1 to 13: the counts of a case and a certificate that have passed them, or the first ground that holds. Where they pass, what is
 // decided of each resource is left in `kept`.
-pub fn bounds_stage(b: &[u8], q: &[u8], kept: &mut [i32]) -> Result<Counts, Refusal>
-    requires { most_numbers ≤ length kept.old }
+pub fn bounds_stage(b: &[u8], q: &[u8], kept: &mut [Capability]) -> Result<Counts, Refusal>
+    requires { most_resources ≤ length kept.old }
     ensures { (result ≡ answered (counts_in (case_of b.now)) (first_of (grounds_to13 b.now q.now))) × Decided b.now result kept.new }
 {
     let form = form_stage(b, q);
@@ -177,6 +177,6 @@ pub fn bounds_stage(b: &[u8], q: &[u8], kept: &mut [i32]) -> Result<Counts, Refu
     let Ok(n) = prices else {
         return prices;
     };
-    let priced = PricedCase::new(b, q, n.resources, n.zones, n.flowgates);
+    let priced = PricedCase::new(b, q, n);
     quantities_stage(&priced, n, kept)
 }

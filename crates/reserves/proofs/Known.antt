@@ -8,7 +8,9 @@ use lib.Dec.{eqb}
 use lib.IntN.{ℤ, pos, nat_abs}
 use borrow.Author.Tests.{eq-eqb, ne_eqb}
 use Rattle.arith.proofs.Magnitudes.{abs-add}
-use Rattle.market.specs.Case.{Case, Curve, operating, regulating_plus_spinning, regulating, short_term}
+use Rattle.market.specs.Case.{Case}
+use Rattle.market.specs.declared.Curve.{Curve}
+use Rattle.market.specs.declared.Curve.TheVariants.{Operating as operating, RegulatingPlusSpinning as regulating_plus_spinning, Regulating as regulating, ShortTerm as short_term}
 use Rattle.market.specs.CaseFile.{case_of}
 use Rattle.market.specs.UpperBounds.{regulation, contingency, on_line_short_term, off_line_short_term, Schedule}
 use Rattle.market.specs.Certificate.{certificate_of}

@@ -6,7 +6,8 @@ use lib.IntN.{ℤ, pos, nat_abs, +ℤ_idr}
 use Rattle.arith.specs.Sums.{sum_of, upto}
 use Rattle.arith.proofs.Sums.{sum-upto}
 use Rattle.arith.proofs.NaturalSums.{upto-size}
-use Rattle.market.specs.Case.{Curve, operating, regulating_plus_spinning, regulating, short_term}
+use Rattle.market.specs.declared.Curve.{Curve}
+use Rattle.market.specs.declared.Curve.TheVariants.{Operating as operating, RegulatingPlusSpinning as regulating_plus_spinning, Regulating as regulating, ShortTerm as short_term}
 use Rattle.market.specs.CaseCheck.{most_resources}
 use Rattle.market.specs.Records.{kw, curve_amounts_of}
 use Rattle.units.specs.Room.{SumRoom}

@@ -7,7 +7,7 @@ use Prim.Native.Nat.{ℕ, ◌+◌, ◌-◌, ◌<◌, ◌≤◌}
 use native.Mathlib.Omega.{arith}
 use lib.IntN.{ℤ}
 use lib.ListN.{get_or, set}
-use Rattle.market.specs.Case.{Curve}
+use Rattle.market.specs.declared.Curve.{Curve}
 use Rattle.market.specs.CaseFile.{case_of}
 use Rattle.market.specs.CaseCheck.{most_zones}
 use Rattle.market.specs.Certificate.{certificate_of}

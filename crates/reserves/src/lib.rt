@@ -3,15 +3,13 @@
 #![tactic(auto)]
 
 ghost use Rattle.std.specs.Prelude.{◌≡◌, cond, ◌<◌, ◌≤◌, pos, nat_abs};
-ghost use Rattle.market.specs.Rows.{is_spinning};
 ghost use Rattle.market.specs.Records.{kw, curve_amounts_of};
-ghost use Rattle.prices.specs.Standing.{SmallAmounts};
-ghost use Rattle.reserves.specs.Given.{SumsRoom, given_by, zoned_amounts_of, added_amounts, totals_of};
+ghost use Rattle.reserves.specs.Given.{SumsRoom, given_by, zoned_amounts_of, added_amounts, market_total, zone_totals};
 ghost use Rattle.prices.specs.PricedCase.{the_case, the_amounts, case_bytes, certificate_bytes};
 
 use capabilities::KeptCase;
-use market::{Amounts, CurveAmounts, Kw, MOST_ZONES};
-use prices::BoundedCase;
+use market::{CurveAmounts, Kw, MOST_ZONES};
+use prices::{BoundedAmounts, BoundedCase};
 
 // ---- of one resource
 
@@ -27,10 +25,11 @@ fn spinning(spins: bool, contingency: Kw) -> Kw
 
 // What amounts give to each row, `spin` being what is spinning.
 #[tactic(auto, unfolding(crate::specs::Given::given_by))]
-fn given(a: Amounts, spin: Kw) -> CurveAmounts
-    requires { SmallAmounts a × (nat_abs spin.0 ≤ 2000000) }
-    ensures { result ≡ given_by a spin }
+fn given(own: BoundedAmounts, spin: Kw) -> CurveAmounts
+    requires { nat_abs spin.0 ≤ 2000000 }
+    ensures { result ≡ given_by own.amounts spin }
 {
+    let a = own.amounts;
     let regulation = a.regulation;
     CurveAmounts {
         operating: units::sum(regulation, a.contingency),
@@ -47,15 +46,15 @@ struct ZonedAmounts {
     amounts: CurveAmounts,
 }
 
-// Of resource i, `spins` being whether its contingency reserve is spinning.
-fn reserve_given(bounded: &BoundedCase<'_>, i: usize, spins: bool) -> ZonedAmounts
-    requires { (i < bounded.now.priced.case.resources) × (spins ≡ is_spinning ((the_case bounded.now.priced).resource i)) }
-    ensures { result ≡ zoned_amounts_of (the_case bounded.now.priced) (the_amounts bounded.now.priced) i }
+// Of resource i.
+fn reserve_given(kept: &KeptCase<'_>, i: usize) -> ZonedAmounts
+    requires { i < kept.now.bounded.priced.case.resources }
+    ensures { result ≡ zoned_amounts_of (the_case kept.now.bounded.priced) (the_amounts kept.now.bounded.priced) i }
 {
-    let resource = bounded.priced.case.resource(i);
-    let a = bounded.priced.certificate.amounts(i);
-    let spin = spinning(spins, a.contingency);
-    let amounts = given(a, spin);
+    let resource = kept.bounded.priced.case.resource(i);
+    let own = kept.bounded.amounts(i);
+    let spin = spinning(kept.spinning(i), own.amounts.contingency);
+    let amounts = given(own, spin);
     ZonedAmounts {
         zone: resource.state.zone,
         amounts,
@@ -93,24 +92,30 @@ fn amounts_sum(a: CurveAmounts, b: CurveAmounts) -> CurveAmounts
 
 // What all resources give to the market's rows, and those of each zone to its rows. Zones count from 0 here,
 // from 1 in the file.
-#[derive(Clone, Copy, Drop)]
-pub struct ReserveTotals {
+#[derive(Clone, Copy)]
+pub struct ReserveTotals<'a> {
+    pub bounded: BoundedCase<'a>,
     pub market: CurveAmounts,
     pub zones: [CurveAmounts; MOST_ZONES],
+    pub ghost market_given: { market ≡ market_total (case_bytes bounded.priced) (certificate_bytes bounded.priced) bounded.priced.case.resources },
+    pub ghost zones_given: { zones ≡ zone_totals (case_bytes bounded.priced) (certificate_bytes bounded.priced) bounded.priced.case.resources },
 }
 
-pub fn totals(kept: &KeptCase<'_>) -> ReserveTotals
-    ensures { result ≡ totals_of (case_bytes kept.now.bounded.priced) (certificate_bytes kept.now.bounded.priced) kept.now.bounded.priced.case.resources }
+pub fn totals<'a>(kept: &KeptCase<'a>) -> ReserveTotals<'a>
+    ensures { result.bounded ≡ kept.now.bounded }
 {
     let mut market = nothing();
     let mut zones = [market; MOST_ZONES];
     for i in 0..kept.bounded.priced.case.resources {
-        let spins = kept.spinning(i);
-        let one = reserve_given(&kept.bounded, i, spins);
+        let one = reserve_given(kept, i);
         let own = one.amounts;
         market = amounts_sum(market, own);
-        let zone = one.zone as usize - 1;
+        let zone = usize::from(one.zone) - 1;
         zones[zone] = amounts_sum(zones[zone], own);
     }
-    ReserveTotals { market, zones }
+    ReserveTotals {
+        bounded: kept.bounded,
+        market,
+        zones,
+    }
 }

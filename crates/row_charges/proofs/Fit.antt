@@ -7,7 +7,9 @@ use lib.IntN.{ℤ, pos, nat_abs, ◌+ℤ◌, ◌-ℤ◌, ◌*ℤ◌}
 use Rattle.arith.specs.Sums.{sum_of, upto}
 use Rattle.arith.proofs.Linear.{sorted, count}
 use Rattle.arith.proofs.Magnitudes.{abs-add, abs-sub, abs_neg, abs-mul}
-use Rattle.market.specs.Case.{Case, Curve, operating, regulating_plus_spinning, regulating, short_term}
+use Rattle.market.specs.Case.{Case}
+use Rattle.market.specs.declared.Curve.{Curve}
+use Rattle.market.specs.declared.Curve.TheVariants.{Operating as operating, RegulatingPlusSpinning as regulating_plus_spinning, Regulating as regulating, ShortTerm as short_term}
 use Rattle.market.specs.Limits.{max_of, hi_of}
 use Rattle.market.specs.UpperBounds.{energy, cleared_quantity, Schedule}
 use Rattle.market.specs.Rows.{Row, balance_row, market_row, zone_row, flowgate_row, limit_row, max_with_reserve, max_with_short_term, minimum, high, low, right_side, slack, Bounded}
@@ -24,7 +26,6 @@ use Rattle.market.proofs.ScheduleSizes.{amount_of, slack_size}
 use Rattle.market.proofs.ChargeSizes.{row_charge_size}
 use Rattle.units.specs.Room.{ProductRoom}
 use Rattle.limits.specs.Together.{limits_of}
-use Rattle.prices.specs.Standing.{SmallAmounts}
 use Rattle.row_charges.specs.Families.{RowChargeRoom, FourRoom, FiveRoom}
 use Rattle.market.specs.Sizes.{most_cents, most_demand, most_factor, most_flowgate_limit, most_price, most_amounts}
 
@@ -115,13 +116,12 @@ module _ (c : Case) (x : Schedule) (y : Prices) (h : CaseRanges c) (p : PriceRan
       (λ k. room_by_right (zone_row z k) m _ _ (words.zone z k) (omega (arith, h.zone_requirement z k m))))
 
   -- MAX and HI stand on the left, MIN and LO on the right
-  pub limit_room : (i : ℕ) → i < c.resources → SmallAmounts (amounts_of x i) → FiveRoom (limit_prices_of y i) (amounts_of x i) (limits_of (c.resource i))
+  pub limit_room : (i : ℕ) → i < c.resources → FiveRoom (limit_prices_of y i) (amounts_of x i) (limits_of (c.resource i))
   unfolding limit_prices_of amounts_of limits_of right_side
-  limit_room i n small =
+  limit_room i n =
       let s = c.resource i in
       let most : max_of s ≤ most_demand = omega (arith, (right_size c h (limit_row i max_with_reserve) n).le, abs_neg (pos (max_of s))) in
       record {
-        amounts = small;
         max_with_reserve = room_by_left (limit_row i max_with_reserve) n _ _ (words.below_max i n) most;
         max_with_short_term = room_by_left (limit_row i max_with_short_term) n _ _ (words.below_max_short_term i n) most;
         minimum = room_by_right (limit_row i minimum) n _ _ (words.above_min i n) (omega (arith, (right_size c h (limit_row i minimum) n).le));

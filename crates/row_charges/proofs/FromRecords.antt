@@ -4,7 +4,9 @@ use mathlib.Core.List.{[], ◌∷◌, map}
 use Prim.Native.Nat.{ℕ, ◌<◌}
 use lib.IntN.{ℤ, pos, ◌-ℤ◌, ◌*ℤ◌}
 use Rattle.arith.specs.Sums.{sum_of, upto}
-use Rattle.market.specs.Case.{Case, Curve, operating, regulating_plus_spinning, regulating, short_term, curves}
+use Rattle.market.specs.Case.{Case, curves}
+use Rattle.market.specs.declared.Curve.{Curve}
+use Rattle.market.specs.declared.Curve.TheVariants.{Operating as operating, RegulatingPlusSpinning as regulating_plus_spinning, Regulating as regulating, ShortTerm as short_term}
 use Rattle.market.specs.UpperBounds.{energy, cleared_quantity, Schedule}
 use Rattle.market.specs.Rows.{Row, balance_row, market_row, zone_row, flowgate_row, limit_row, max_with_reserve, max_with_short_term, minimum, high, low, limits, market_rows, slack}
 use Rattle.market.specs.Certificate.{Prices}

@@ -12,7 +12,6 @@ use Rattle.market.specs.Certificate.{certificate_of}
 use Rattle.market.specs.Charges.{row_charge}
 use Rattle.limits.specs.declared.ResourceLimits.{ResourceLimits}
 use Rattle.units.specs.Room.{SumRoom, ProductRoom}
-use Rattle.prices.specs.Standing.{SmallAmounts}
 
 -- a row's charge, of the case in b and the certificate in q
 abbrev pub row_charge_in : List ℕ → List ℕ → Row → ℤ
@@ -49,7 +48,6 @@ five_charges prices amounts limits =
     ∷ []
 
 pub record FiveRoom (prices : LimitPrices) (given : (PerService Kw)) (limits : ResourceLimits) : Type 0 where
-  pub amounts : SmallAmounts given
   pub max_with_reserve : RowChargeRoom prices.max_with_reserve.0 limits.max.0 (given.energy.0 +ℤ given.regulation.0 +ℤ given.contingency.0)
   pub max_with_short_term : RowChargeRoom prices.max_with_short_term.0 limits.max.0 (given.energy.0 +ℤ given.on_line_short_term.0)
   pub minimum : RowChargeRoom prices.minimum.0 (given.energy.0 -ℤ given.regulation.0) limits.min.0

@@ -8,18 +8,18 @@ ghost use Rattle.market.specs.Case.{curves};
 ghost use Rattle.market.specs.Rows.{balance_row, zone_row, flowgate_row, limit_row, limits, market_rows, zone_rows, flowgate_rows, limit_rows, rows, system_row_count, zone_row_count, resource_row_count, row_count_of};
 ghost use Rattle.market.specs.Charges.{row_charge};
 ghost use Rattle.market.specs.Records.{grains};
-ghost use Rattle.flows.specs.Parts.{EnergyParts};
-ghost use Rattle.reserves.specs.Given.{market_total, zone_total, zone_totals};
 ghost use Rattle.row_charges.specs.Families.{RowChargeRoom, FourRoom, FiveRoom, row_charge_in, four_charges, five_charges};
 ghost use Rattle.prices.specs.PricedCase.{the_case, the_prices, the_amounts, case_bytes, certificate_bytes};
 
 use capabilities::KeptCase;
+use flows::Energies;
 use limits::ResourceLimits;
 use market::{
-    Amounts, CurveAmounts, Grains, Kw, LimitPrices, MOST_RESOURCES, MOST_ZONES, Millicents,
-    RESOURCE_ROWS, ReservePrices, SYSTEM_ROWS, ZONE_ROWS,
+    CurveAmounts, Grains, Kw, LimitPrices, MOST_RESOURCES, Millicents, RESOURCE_ROWS,
+    ReservePrices, SYSTEM_ROWS, ZONE_ROWS,
 };
-use prices::BoundedCase;
+use prices::{BoundedAmounts, BoundedCase};
+use reserves::ReserveTotals;
 
 // The price of a row times its slack, which is one side less the other.
 fn charge(price: Millicents, more: Kw, less: Kw) -> Grains
@@ -61,63 +61,57 @@ fn write_four(prices: ReservePrices, have: CurveAmounts, need: CurveAmounts, out
 }
 
 // Against the cleared quantities.
-fn write_market(bounded: &BoundedCase<'_>, have: CurveAmounts, out: &mut [i64])
-    requires room { zone_row_count ≤ length out.old }
-    requires have_value { have ≡ market_total (case_bytes bounded.now.priced) (certificate_bytes bounded.now.priced) bounded.now.priced.case.resources }
-    ensures { out.new ≡ map (row_charge_in (case_bytes bounded.now.priced) (certificate_bytes bounded.now.priced)) market_rows ++ drop zone_row_count out.old }
+fn write_market(have: &ReserveTotals<'_>, out: &mut [i64])
+    requires { zone_row_count ≤ length out.old }
+    ensures { out.new ≡ map (row_charge_in (case_bytes have.now.bounded.priced) (certificate_bytes have.now.bounded.priced)) market_rows ++ drop zone_row_count out.old }
 {
-    let prices = bounded.priced.certificate.market_prices();
-    let need = bounded.priced.certificate.cleared();
-    write_four(prices, have, need, out);
+    let prices = have.bounded.priced.certificate.market_prices();
+    let need = have.bounded.priced.certificate.cleared();
+    write_four(prices, have.market, need, out);
 }
 
 // Rows 1 to 5.
-fn write_system(bounded: &BoundedCase<'_>, have: CurveAmounts, out: &mut [i64])
-    requires room { system_row_count ≤ length out.old }
-    requires have_value { have ≡ market_total (case_bytes bounded.now.priced) (certificate_bytes bounded.now.priced) bounded.now.priced.case.resources }
-    ensures { out.new ≡ map (row_charge_in (case_bytes bounded.now.priced) (certificate_bytes bounded.now.priced)) (balance_row ∷ market_rows) ++ drop system_row_count out.old }
+fn write_system(have: &ReserveTotals<'_>, out: &mut [i64])
+    requires { system_row_count ≤ length out.old }
+    ensures { out.new ≡ map (row_charge_in (case_bytes have.now.bounded.priced) (certificate_bytes have.now.bounded.priced)) (balance_row ∷ market_rows) ++ drop system_row_count out.old }
 {
-    write_balance(bounded, out);
-    write_market(bounded, have, &mut out[1..]);
+    write_balance(&have.bounded, out);
+    write_market(have, &mut out[1..]);
 }
 
 // ---- zones' reserve rows
 
 // Against what the zone needs.
-fn write_zone(bounded: &BoundedCase<'_>, zone: usize, have: CurveAmounts, out: &mut [i64])
-    requires zone { (zone < bounded.now.priced.case.zones) × (zone_row_count ≤ length out.old) }
-    requires have_value { have ≡ zone_total (case_bytes bounded.now.priced) (certificate_bytes bounded.now.priced) bounded.now.priced.case.resources zone }
-    ensures { out.new ≡ map (row_charge_in (case_bytes bounded.now.priced) (certificate_bytes bounded.now.priced)) (map (zone_row zone) curves) ++ drop zone_row_count out.old }
+fn write_zone(have: &ReserveTotals<'_>, zone: usize, out: &mut [i64])
+    requires { (zone < have.now.bounded.priced.case.zones) × (zone_row_count ≤ length out.old) }
+    ensures { out.new ≡ map (row_charge_in (case_bytes have.now.bounded.priced) (certificate_bytes have.now.bounded.priced)) (map (zone_row zone) curves) ++ drop zone_row_count out.old }
 {
-    let prices = bounded.priced.certificate.zone_prices(zone);
-    let need = bounded.priced.case.zone(zone);
-    write_four(prices, have, need, out);
+    let prices = have.bounded.priced.certificate.zone_prices(zone);
+    let need = have.bounded.priced.case.zone(zone);
+    write_four(prices, have.zones[zone], need, out);
 }
 
 // Each zone's, from its own place on.
 #[tactic(auto, using(case_records::proofs::Places::zones_is))]
-fn write_zones(bounded: &BoundedCase<'_>, have: [CurveAmounts; MOST_ZONES], out: &mut [i64])
-    requires room { bounded.now.priced.case.zones * zone_row_count ≤ length out.old }
-    requires have_value { have ≡ zone_totals (case_bytes bounded.now.priced) (certificate_bytes bounded.now.priced) bounded.now.priced.case.resources }
-    ensures { out.new ≡ map (row_charge_in (case_bytes bounded.now.priced) (certificate_bytes bounded.now.priced)) (zone_rows (the_case bounded.now.priced)) ++ drop (bounded.now.priced.case.zones * zone_row_count) out.old }
+fn write_zones(have: &ReserveTotals<'_>, out: &mut [i64])
+    requires { have.now.bounded.priced.case.zones * zone_row_count ≤ length out.old }
+    ensures { out.new ≡ map (row_charge_in (case_bytes have.now.bounded.priced) (certificate_bytes have.now.bounded.priced)) (zone_rows (the_case have.now.bounded.priced)) ++ drop (have.now.bounded.priced.case.zones * zone_row_count) out.old }
 {
-    for zone in 0..bounded.priced.case.zones {
-        let own = &mut out[zone * ZONE_ROWS..];
-        write_zone(bounded, zone, have[zone], own);
+    for zone in 0..have.bounded.priced.case.zones {
+        write_zone(have, zone, &mut out[zone * ZONE_ROWS..]);
     }
 }
 
 // ---- flowgates' rows
 
 // The limit less the flow.
-fn flowgate_charge(bounded: &BoundedCase<'_>, g: usize, high: &[i16], low: &[i16]) -> Grains
-    requires flowgate { g < bounded.now.priced.case.flowgates }
-    requires energy_parts { EnergyParts (certificate_bytes bounded.now.priced) bounded.now.priced.case.resources high.now low.now }
-    ensures { result ≡ grains (row_charge_in (case_bytes bounded.now.priced) (certificate_bytes bounded.now.priced) (flowgate_row g)) }
+fn flowgate_charge(energies: &Energies<'_>, g: usize) -> Grains
+    requires { g < energies.now.bounded.priced.case.flowgates }
+    ensures { result ≡ grains (row_charge_in (case_bytes energies.now.bounded.priced) (certificate_bytes energies.now.bounded.priced) (flowgate_row g)) }
 {
-    let price = bounded.priced.certificate.flowgate_price(g);
-    let flows = flows::flow(bounded, g, high, low);
-    let limit = bounded.priced.case.flowgate_limit(g);
+    let price = energies.bounded.priced.certificate.flowgate_price(g);
+    let flows = flows::flow(energies, g);
+    let limit = energies.bounded.priced.case.flowgate_limit(g);
     let most = units::in_watts(limit);
     let slack = units::difference(most, flows);
     units::flow_value(price, slack)
@@ -131,8 +125,9 @@ fn write_flowgates(bounded: &BoundedCase<'_>, out: &mut [i64])
     let mut high = [0i16; MOST_RESOURCES];
     let mut low = [0i16; MOST_RESOURCES];
     flows::write_energies(&bounded.priced.certificate, &mut high, &mut low);
+    let energies = Energies::new(*bounded, &high, &low);
     for g in 0..bounded.priced.case.flowgates {
-        let value = flowgate_charge(bounded, g, &high, &low);
+        let value = flowgate_charge(&energies, g);
         out[g] = value.0;
     }
 }
@@ -140,10 +135,11 @@ fn write_flowgates(bounded: &BoundedCase<'_>, out: &mut [i64])
 // ---- each resource's own rows
 
 // MAX - (e+g+c), MAX - (e+s), e-g - MIN, HI - e, e - LO.
-fn write_five(prices: LimitPrices, a: Amounts, l: ResourceLimits, out: &mut [i64])
-    requires { FiveRoom prices a l × (resource_row_count ≤ length out.old) }
-    ensures { out.new ≡ five_charges prices a l ++ drop resource_row_count out.old }
+fn write_five(prices: LimitPrices, own: BoundedAmounts, l: ResourceLimits, out: &mut [i64])
+    requires { FiveRoom prices own.amounts l × (resource_row_count ≤ length out.old) }
+    ensures { out.new ≡ five_charges prices own.amounts l ++ drop resource_row_count out.old }
 {
+    let a = own.amounts;
     let up = units::sum(a.energy, a.regulation);
     let with_reserve = units::sum(up, a.contingency);
     let with_short_term = units::sum(a.energy, a.on_line_short_term);
@@ -161,9 +157,9 @@ fn write_resource(kept: &KeptCase<'_>, i: usize, out: &mut [i64])
     ensures { out.new ≡ map (row_charge_in (case_bytes kept.now.bounded.priced) (certificate_bytes kept.now.bounded.priced)) (map (limit_row i) limits) ++ drop resource_row_count out.old }
 {
     let prices = kept.bounded.priced.certificate.limit_prices(i);
-    let own = kept.limits(i);
-    let a = kept.bounded.priced.certificate.amounts(i);
-    write_five(prices, a, own, out);
+    let held = kept.limits(i);
+    let own = kept.bounded.amounts(i);
+    write_five(prices, own, held, out);
 }
 
 // Each resource's, from its own place on.
@@ -194,8 +190,7 @@ pub fn write_row_charges(kept: &KeptCase<'_>, out: &mut [i64])
 {
     let at = SYSTEM_ROWS + kept.bounded.priced.case.zones * ZONE_ROWS;
     let have = reserves::totals(kept);
-    let in_zones = have.zones;
-    write_system(&kept.bounded, have.market, out);
-    write_zones(&kept.bounded, in_zones, &mut out[SYSTEM_ROWS..]);
+    write_system(&have, out);
+    write_zones(&have, &mut out[SYSTEM_ROWS..]);
     write_network(kept, &mut out[at..]);
 }

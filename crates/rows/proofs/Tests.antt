@@ -7,7 +7,9 @@ use lib.IntN.{ℤ, pos, ◌+ℤ◌, ◌-ℤ◌, ◌*ℤ◌}
 use lib.Signed.{le_z}
 use Rattle.arith.specs.Sums.{sum_of, upto}
 use Rattle.arith.proofs.Order.{le_z_sub, sub_le_z}
-use Rattle.market.specs.Case.{Case, Curve, operating, regulating_plus_spinning, regulating, short_term, curves}
+use Rattle.market.specs.Case.{Case, curves}
+use Rattle.market.specs.declared.Curve.{Curve}
+use Rattle.market.specs.declared.Curve.TheVariants.{Operating as operating, RegulatingPlusSpinning as regulating_plus_spinning, Regulating as regulating, ShortTerm as short_term}
 use Rattle.market.specs.Limits.{max_of, min_of, hi_of, lo_of}
 use Rattle.market.specs.UpperBounds.{energy, regulation, contingency, on_line_short_term, cleared_quantity, Schedule}
 use Rattle.market.specs.Rows.{balance_row, market_row, zone_row, flowgate_row, limit_row, limits, market_rows, slack}

@@ -1,7 +1,7 @@
 -- The tests of a family's rows on figures by value, in the words of 01, and the first that fails.
 use Rattle.market.specs.declared.PerService.{PerService}
 use Rattle.market.specs.declared.Kw.{Kw}
-use Rattle.std.specs.Prelude.{Bool, List, [], ◌∷◌, ℕ, ◌+◌, ◌*◌, ◌≤◌, ◌+ℤ◌, ◌-ℤ◌}
+use Rattle.std.specs.Prelude.{Bool, List, [], ◌∷◌, ℕ, ◌+◌, ◌*◌, ◌+ℤ◌, ◌-ℤ◌}
 use Rattle.std.specs.Int.Signed.{le_z}
 use Rattle.market.specs.declared.Refusal.TheVariants.{RowBroken}
 use Rattle.market.specs.CaseFile.{case_of}
@@ -16,20 +16,19 @@ use Rattle.limits.specs.declared.ResourceLimits.{ResourceLimits}
 abbrev pub broken_from : List ℕ → List ℕ → ℕ → List Row → Finding
 broken_from b q n rows = first_failing (row_met (case_of b) (certificate_of q)) RowBroken n rows
 
--- the number of the zones' first row
+-- the number of the first row of the zones, of the flowgates behind so many zones, of the resources behind these and so many flowgates
 abbrev pub first_zone_row : ℕ
 first_zone_row = 1 + system_row_count
 
--- the largest number that the first row of a resource may have, and the one after the last row
-abbrev pub most_first_limit : ℕ
-most_first_limit = first_zone_row + most_zones * zone_row_count + most_flowgates
+abbrev pub first_flowgate_row : ℕ → ℕ
+first_flowgate_row zones = first_zone_row + zones * zone_row_count
 
+abbrev pub first_limit_row : ℕ → ℕ → ℕ
+first_limit_row zones flowgates = first_flowgate_row zones + flowgates
+
+-- no row has a larger number
 abbrev pub most_row : ℕ
-most_row = most_first_limit + most_resources * resource_row_count
-
--- a row's number, up to so many
-pub record Numbered (most n : ℕ) : Type 0 where
-  pub to : n ≤ most
+most_row = first_limit_row most_zones most_flowgates + most_resources * resource_row_count
 
 -- e+g+c ≤ MAX, e+s ≤ MAX, e-g ≥ MIN, e ≤ HI, e ≥ LO
 abbrev pub limit_tests : PerService Kw → ResourceLimits → List Bool

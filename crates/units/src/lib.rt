@@ -2,12 +2,13 @@
 // thousandths of a cent times kW is grains; so is a price in cents times thousandths of a kW.
 #![tactic(auto)]
 
-ghost use Rattle.std.specs.Prelude.{◌≡◌, refl, map, ℤ, pos, ◌+◌, ◌≤◌, ◌+ℤ◌, ◌-ℤ◌, ◌*ℤ◌};
+ghost use Rattle.std.specs.Prelude.{◌≡◌, map, ℤ, pos, nat_abs, ◌+◌, ◌≤◌, ◌+ℤ◌, ◌-ℤ◌, ◌*ℤ◌};
 ghost use Rattle.std.specs.Int.Signed.{le_z};
 ghost use Rattle.arith.specs.Sums.{min_ℤ};
-ghost use Rattle.market.specs.Records.{kw, watts, millicents, grains};
+ghost use Rattle.market.specs.Records.{watts, millicents, grains};
 ghost use Rattle.market.specs.Fits.{Fits64};
 ghost use Rattle.units.specs.Room.{SumRoom, ProductRoom};
+ghost use Rattle.units.specs.Sized.{Sized};
 ghost use Rattle.units.specs.Search.{first_false, reaches, short_tests};
 
 use market::{Cents, Grains, Kw, Millicents, PerCurve, ShiftFactor, Unit, Watts};
@@ -31,6 +32,24 @@ pub fn at_least<U: Unit>(a: U, b: U) -> bool
 {
     a.number() >= b.number()
 }
+
+// ---- with how large they can be
+
+pub fn sized_sum<U: Unit>(a: U, b: U) -> U
+    requires { SumRoom (U.number a) (U.number b) }
+    ensures { Sized (U.number result) (U.number a +ℤ U.number b) (nat_abs (U.number a) + nat_abs (U.number b)) }
+{
+    sum(a, b)
+}
+
+pub fn sized_difference<U: Unit>(a: U, b: U) -> U
+    requires { SumRoom (U.number a) (U.number b) }
+    ensures { Sized (U.number result) (U.number a -ℤ U.number b) (nat_abs (U.number a) + nat_abs (U.number b)) }
+{
+    difference(a, b)
+}
+
+// ---- products, and one unit in another
 
 // A price of thousandths of a cent times an amount.
 pub fn value(a: Millicents, b: Kw) -> Grains
@@ -71,24 +90,22 @@ pub fn in_watts(a: Kw) -> Watts
 }
 
 // The lesser of 0 and a figure.
+#[tactic(auto, using(crate::proofs::Least::least_is))]
 pub fn negative_part(a: Grains) -> Grains
     requires { Fits64 a.0 }
     ensures { result ≡ grains (min_ℤ (pos 0) a.0) }
 {
-    let x = a.0;
-    if x >= 0 {
-        return Grains(0);
-    }
-    Grains(x)
+    Grains(a.0.min(0))
 }
+
+// ---- searches
 
 // The first pair whose first figure is less than its second, by its number, counted from `first`.
 pub fn first_below<const N: usize>(pairs: [(Kw, Kw); N], first: u32) -> Option<u32>
     requires { first + N ≤ 4294967295 }
     ensures { result ≡ first_false first (map reaches pairs.entry) }
 {
-    for k in 0..N {
-        let (have, need) = pairs[k];
+    for (k, &(have, need)) in pairs.iter().enumerate() {
         if !at_least(have, need) {
             return Some(first + k as u32);
         }

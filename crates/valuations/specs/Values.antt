@@ -6,26 +6,24 @@ use Rattle.arith.specs.Sums.{sum_of, upto}
 use Rattle.market.specs.UpperBounds.{energy}
 use Rattle.market.specs.Sizes.{most_power}
 use Rattle.market.specs.declared.Kw.{Kw}
-use Rattle.case_records.specs.Ranged.{UpTo, RangedSteps, offer_step}
+use Rattle.case_records.specs.Ranged.{UpTo, offer_step}
 use Rattle.market.specs.declared.PerService.{PerService}
 use Rattle.market.specs.declared.Millicents.{Millicents}
-use Rattle.net_prices.specs.Sizes.{SmallNets}
 use Rattle.costs.specs.Steps.{steps_worth}
 use Rattle.costs.specs.Worth.{thousands}
-use Rattle.bounds.specs.Sizes.{Figure, SmallSteps, most_service_term}
+use Rattle.units.specs.Sized.{Sized}
+use Rattle.bounds.specs.Sizes.{SmallSteps, most_service_term}
 use Rattle.bounds.specs.Terms.{step_least}
 use Rattle.valuations.specs.declared.Value.{Value}
 
 -- this worth, and so much for the bound
 pub record Valued (value : Value) (worth least : ℤ) (most : ℕ) : Type 0 where
   pub worth_is : value.worth ≡ thousands worth
-  pub least_is : Figure value.least least most
+  pub least_is : Sized value.least.0 least most
 
 -- ---- a resource's energy steps
-pub record StepsRoom (steps : (List Step)) (nets : PerService Millicents) (amount : Kw) : Type 0 where
-  pub small_nets : SmallNets nets
+pub record StepsRoom (steps : List Step) (amount : Kw) : Type 0 where
   pub small_steps : SmallSteps steps
-  pub ranged_steps : RangedSteps steps
   pub provided : UpTo amount.0 most_power
 
 -- an amount filled into them in order, and the least that each adds, its upper bound being 0 if the resource is not on-line

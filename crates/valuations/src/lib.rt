@@ -17,7 +17,8 @@ ghost use Rattle.prices.specs.PricedCase.{the_case, the_prices, the_amounts, cas
 
 use capabilities::KeptCase;
 use costs::ThousandGrains;
-use market::{Grains, Kw, MOST_RESOURCES, Millicents, OfferSteps};
+use limits::OfferInRange;
+use market::{Grains, Kw, MOST_RESOURCES, Millicents};
 use net_prices::Nets;
 
 // What is added to the cost, at prices in cents, and to the bound.
@@ -29,28 +30,28 @@ pub struct Value {
 
 // ---- a resource's energy
 
-// The steps of an on-line resource, filled in order.
+// The steps of an on-line resource, filled in order. Why this loop and that of `costs::curve_value` stay two is said there.
 #[tactic(auto, using(arith::proofs::SumSteps::sum_steps))]
-fn steps_value(steps: OfferSteps, nets: Nets, energy: Kw) -> Value
-    requires { StepsRoom steps nets energy }
-    ensures { StepsValued true steps nets energy result }
+fn steps_value(offer: OfferInRange, nets: Nets, energy: Kw) -> Value
+    requires { StepsRoom offer.steps energy }
+    ensures { StepsValued true offer.steps nets.prices energy result }
 {
     let mut worth = ThousandGrains(0);
     let mut left = energy;
     let mut least = Grains(0);
-    for step in &steps {
+    for step in &offer.steps {
         let filled = costs::fill(left, step.width);
-        worth = costs::sum(worth, costs::worth(step.price, filled.part));
+        worth = units::sum(worth, costs::worth(step.price, filled.part));
         left = filled.left;
-        least = bounds::plus(least, bounds::step_least(nets, true, *step));
+        least = units::sized_sum(least, bounds::step_least(nets, true, *step));
     }
     Value { worth, least }
 }
 
 // A resource that is not on-line has no energy, and the upper bounds of its steps are 0.
-fn energy_value(on: bool, steps: OfferSteps, nets: Nets, energy: Kw) -> Value
-    requires { StepsRoom steps nets energy × (on ≡ false → energy.0 ≡ pos 0) }
-    ensures { StepsValued on steps nets energy result }
+fn energy_value(on: bool, offer: OfferInRange, nets: Nets, energy: Kw) -> Value
+    requires { StepsRoom offer.steps energy × (on ≡ false → energy.0 ≡ pos 0) }
+    ensures { StepsValued on offer.steps nets.prices energy result }
 {
     if !on {
         return Value {
@@ -58,7 +59,7 @@ fn energy_value(on: bool, steps: OfferSteps, nets: Nets, energy: Kw) -> Value
             least: Grains(0),
         };
     }
-    steps_value(steps, nets, energy)
+    steps_value(offer, nets, energy)
 }
 
 // ---- a resource, its LMP being `lmp`
@@ -70,18 +71,18 @@ fn priced_value(kept: &KeptCase<'_>, i: usize, lmp: Millicents) -> Value
     ensures { Valued result (resource_worth (the_case kept.now.bounded.priced) (the_amounts kept.now.bounded.priced) i) (least_terms (case_bytes kept.now.bounded.priced) (certificate_bytes kept.now.bounded.priced) i) most_least_terms }
 {
     let resource = kept.bounded.priced.case.resource(i);
-    let amounts = kept.bounded.priced.certificate.amounts(i);
-    let steps = kept.bounded.priced.case.offer_steps(i);
+    let own = kept.bounded.amounts(i);
+    let offer = kept.bounded.priced.offer_steps(i);
     let on = kept.on_line(i);
     let spins = kept.spinning(i);
     let uppers = kept.bounds(i);
     let nets = net_prices::nets_for(&kept.bounded.priced, i, spins, lmp, resource);
-    let energy = energy_value(on, steps, nets, amounts.energy);
-    let reserves = costs::reserves_worth(resource.offers, amounts);
+    let energy = energy_value(on, offer, nets, own.amounts.energy);
+    let reserves = costs::reserves_worth(resource.offers, own);
     let least = bounds::reserves_least(nets, uppers);
     Value {
-        worth: costs::sum(energy.worth, reserves),
-        least: bounds::plus(energy.least, least),
+        worth: units::sum(energy.worth, reserves),
+        least: units::sized_sum(energy.least, least),
     }
 }
 
@@ -98,7 +99,7 @@ fn resource_value(kept: &KeptCase<'_>, i: usize, lmp: Millicents) -> Value
     let worth = priced.worth;
     Value {
         worth,
-        least: bounds::plus(rows, priced.least),
+        least: units::sized_sum(rows, priced.least),
     }
 }
 
@@ -114,8 +115,8 @@ fn sum_values(kept: &KeptCase<'_>, lmps: &[i64]) -> Value
     let mut least = Grains(0);
     for i in 0..kept.bounded.priced.case.resources {
         let one = resource_value(kept, i, Millicents(lmps[i]));
-        worth = costs::sum(worth, one.worth);
-        least = bounds::plus(least, one.least);
+        worth = units::sum(worth, one.worth);
+        least = units::sized_sum(least, one.least);
     }
     Value { worth, least }
 }

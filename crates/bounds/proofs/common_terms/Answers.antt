@@ -20,8 +20,8 @@ balance : (c : After-worth-balance) → c.worth-balance.result.0 ≡ row_term (c
 unfolding right_side
 balance c = c.worth-balance.ensures.is ∙ rw (c.balance_price-price.ensures, c.demand-demand.ensures)
 
-pub plus-requires : goal.plus-requires
-plus-requires c = omega (arith, demand-most (goal.at.plus-requires c).After-demand-demand)
+pub sized_sum-requires : goal.sized_sum-requires
+sized_sum-requires c = omega (arith, demand-most (goal.at.sized_sum-requires c).After-demand-demand)
 
 pub returns : goal.returns
 returns c = record { is = cc (balance (goal.at.returns c).After-worth-balance); size = omega (arith, demand-most (goal.at.returns c).After-demand-demand) }

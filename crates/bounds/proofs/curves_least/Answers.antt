@@ -2,29 +2,24 @@ use Rattle.market.specs.declared.PerCurve.{PerCurve}
 use Rattle.market.specs.declared.Millicents.{Millicents}
 use mathlib.Core.Path.{ap}
 use native.Mathlib.Omega.{arith}
-use Rattle.market.specs.Case.{operating, regulating_plus_spinning, regulating, short_term}
+use Rattle.market.specs.declared.Curve.TheVariants.{Operating as operating, RegulatingPlusSpinning as regulating_plus_spinning, Regulating as regulating, ShortTerm as short_term}
 use Rattle.market.specs.Records.{reserve_prices_of}
-use Rattle.case_records.proofs.Ranged.{curve_ranged}
-use Rattle.prices.proofs.Known.{case_ranges, market_small}
+use Rattle.prices.proofs.Known.{market_small}
 use Rattle.bounds.proofs.PricedTerms.{curve_from_lem, curves_are}
 use Rattle.prices.specs.PricedCase.{the_case, the_prices}
 use Rattle.bounds.proofs.curves_least.Goals as goal
 
 pub curve_least-operating-requires : goal.curve_least-operating-requires
-curve_least-operating-requires c =
-    rw (c.market_prices-prices.ensures, c.curve.ensures) ((market_small c.args.priced.now.prices_stand).operating, curve_ranged (case_ranges c.args.priced.now.prices_stand) operating)
+curve_least-operating-requires c = rw c.market_prices-prices.ensures (market_small c.args.priced.now.prices_stand).operating
 
 pub curve_least-both-requires : goal.curve_least-both-requires
-curve_least-both-requires c =
-    rw (c.market_prices-prices.ensures, c.curve-2.ensures) ((market_small c.args.priced.now.prices_stand).regulating_plus_spinning, curve_ranged (case_ranges c.args.priced.now.prices_stand) regulating_plus_spinning)
+curve_least-both-requires c = rw c.market_prices-prices.ensures (market_small c.args.priced.now.prices_stand).regulating_plus_spinning
 
 pub curve_least-regulating-requires : goal.curve_least-regulating-requires
-curve_least-regulating-requires c =
-    rw (c.market_prices-prices.ensures, c.curve-3.ensures) ((market_small c.args.priced.now.prices_stand).regulating, curve_ranged (case_ranges c.args.priced.now.prices_stand) regulating)
+curve_least-regulating-requires c = rw c.market_prices-prices.ensures (market_small c.args.priced.now.prices_stand).regulating
 
 pub curve_least-short_term-requires : goal.curve_least-short_term-requires
-curve_least-short_term-requires c =
-    rw (c.market_prices-prices.ensures, c.curve-4.ensures) ((market_small c.args.priced.now.prices_stand).short_term, curve_ranged (case_ranges c.args.priced.now.prices_stand) short_term)
+curve_least-short_term-requires c = rw c.market_prices-prices.ensures (market_small c.args.priced.now.prices_stand).short_term
 
 pub returns : goal.returns
 unfolding reserve_prices_of

@@ -3,7 +3,7 @@ use native.Mathlib.Omega.{arith}
 use lib.IntN.{pos, ◌-ℤ◌, ◌*ℤ◌}
 use Rattle.market.specs.Records.{watts}
 use Rattle.prices.proofs.Known.{limit_room}
-use Rattle.bounds.proofs.Figures.{figure_is, figure_as}
+use Rattle.bounds.proofs.Figures.{sized_is, sized_as}
 use Rattle.bounds.proofs.RowTerms.{flowgate_room, flowgate_term_size, flowgate_value_is}
 use Rattle.bounds.proofs.flowgate_term.Goals as goal
 use Rattle.bounds.proofs.flowgate_term.Goals.{After-difference-side}
@@ -23,7 +23,7 @@ flow_value-requires c =
 pub returns : goal.returns
 returns c =
     let g = c.args.flowgate in
-    figure_as
-    (figure_is (c.flow_value.ensures ∙ rw (side (goal.at.returns c).After-difference-side, c.flowgate_price-price.ensures)) (flowgate_term_size c.args.priced.now.prices_stand g c.requires))
+    sized_as
+    (sized_is (c.flow_value.ensures ∙ rw (side (goal.at.returns c).After-difference-side, c.flowgate_price-price.ensures)) (flowgate_term_size c.args.priced.now.prices_stand g c.requires))
     (flowgate_value_is (the_case c.args.priced.now) (the_prices c.args.priced.now) g)
     (omega arith)

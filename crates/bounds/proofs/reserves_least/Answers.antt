@@ -9,16 +9,16 @@ use Rattle.bounds.proofs.reserves_least.Goals as goal
 use Rattle.bounds.proofs.reserves_least.Goals.{After-least_of-contingency, After-least_of-off_line, After-least_of-on_line, After-least_of-regulation}
 
 regulation-most : (c : After-least_of-regulation) → nat_abs c.least_of-regulation.result.0 ≤ most_service_term regulation
-regulation-most c = omega (arith, c.least_of-regulation.ensures.size, mul-le-mul c.requires.0.regulation c.requires.1.regulation)
+regulation-most c = omega (arith, c.least_of-regulation.ensures.size, mul-le-mul c.args.nets.small.regulation c.requires.regulation)
 
 contingency-most : (c : After-least_of-contingency) → nat_abs c.least_of-contingency.result.0 ≤ most_service_term contingency
-contingency-most c = omega (arith, c.least_of-contingency.ensures.size, mul-le-mul c.requires.0.contingency c.requires.1.contingency)
+contingency-most c = omega (arith, c.least_of-contingency.ensures.size, mul-le-mul c.args.nets.small.contingency c.requires.contingency)
 
 on-line-most : (c : After-least_of-on_line) → nat_abs c.least_of-on_line.result.0 ≤ most_service_term on_line_short_term
-on-line-most c = omega (arith, c.least_of-on_line.ensures.size, mul-le-mul c.requires.0.on_line_short_term c.requires.1.on_line_short_term)
+on-line-most c = omega (arith, c.least_of-on_line.ensures.size, mul-le-mul c.args.nets.small.on_line_short_term c.requires.on_line_short_term)
 
 off-line-most : (c : After-least_of-off_line) → nat_abs c.least_of-off_line.result.0 ≤ most_service_term off_line_short_term
-off-line-most c = omega (arith, c.least_of-off_line.ensures.size, mul-le-mul c.requires.0.off_line_short_term c.requires.1.off_line_short_term)
+off-line-most c = omega (arith, c.least_of-off_line.ensures.size, mul-le-mul c.args.nets.small.off_line_short_term c.requires.off_line_short_term)
 
 pub returns : goal.returns
 unfolding reserves_least

@@ -1,6 +1,6 @@
 use native.Mathlib.Omega.{arith}
 use Rattle.prices.proofs.Known.{case_ranges, zone_small, zone_below}
-use Rattle.bounds.proofs.Figures.{figure_as}
+use Rattle.bounds.proofs.Figures.{sized_as}
 use Rattle.bounds.proofs.RowTerms.{requirements_small, zone_value_is}
 use Rattle.prices.specs.PricedCase.{the_case, the_prices}
 use Rattle.bounds.proofs.zone_terms.Goals as goal
@@ -13,4 +13,4 @@ zone_value-requires c =
 
 pub returns : goal.returns
 returns c =
-    figure_as c.zone_value.ensures (rw (c.zone_prices-prices.ensures, c.zone-needed.ensures) (zone_value_is (the_case c.args.priced.now) (the_prices c.args.priced.now) c.args.zone)) (omega arith)
+    sized_as c.zone_value.ensures (rw (c.zone_prices-prices.ensures, c.zone-needed.ensures) (zone_value_is (the_case c.args.priced.now) (the_prices c.args.priced.now) c.args.zone)) (omega arith)

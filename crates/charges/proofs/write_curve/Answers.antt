@@ -14,16 +14,16 @@ pub loop-j-init : goal.loop-j-init
 loop-j-init c = none_charged c.requires.0.cleared
 
 filling : (c : After-fill-filled) →
-    c.fill-filled.result ≡ filled_at (curve_step c.args.curve) (nat_abs c.args.cleared.0) c.loop-j.j
+    c.fill-filled.result ≡ filled_at (curve_step c.args.curve.steps) (nat_abs c.args.cleared.0) c.loop-j.j
 filling c = filled_now c.loop-j.invariant c.fill-filled.ensures
 
 pub curve_step_charge-charge-requires : goal.curve_step_charge-charge-requires
-curve_step_charge-charge-requires c = rw (filling (goal.at.curve_step_charge-charge-requires c).After-fill-filled) (c.requires.0.row_price, curve_step_room c.requires.0.steps (nat_abs c.args.cleared.0) c.loop-j.j (omega arith))
+curve_step_charge-charge-requires c = rw (filling (goal.at.curve_step_charge-charge-requires c).After-fill-filled) (c.requires.0.row_price, curve_step_room c.args.curve.ranged (nat_abs c.args.cleared.0) c.loop-j.j (omega arith))
 
 pub loop-j-preserved : goal.loop-j-preserved
 loop-j-preserved c =
     let value = c.curve_step_charge-charge.result.0 in
     let e : to_z w64 (of_z w64 value) ≡ value = search (rules, to_z-of_z) in
     let f = filling (goal.at.loop-j-preserved c).After-fill-filled in
-    let v : c.curve_step_charge-charge.result ≡ grains (curve_charge c.args.price c.args.curve (nat_abs c.args.cleared.0) c.loop-j.j) = c.curve_step_charge-charge.ensures ∙ rw f in
+    let v : c.curve_step_charge-charge.result ≡ grains (curve_charge c.args.price c.args.curve.steps (nat_abs c.args.cleared.0) c.loop-j.j) = c.curve_step_charge-charge.ensures ∙ rw f in
     rw (e, v) (one_charged c.loop-j.invariant (omega arith) f)

@@ -5,4 +5,4 @@ use Rattle.charges.proofs.StepCharges.{Charged}
 use Rattle.charges.proofs.write_curve.Given as goal
 
 abbrev pub invariant-loop-j : goal.invariant-loop-j
-invariant-loop-j l = Charged (curve_step l.fn.curve) (curve_charge l.price l.fn.curve (nat_abs l.fn.cleared.0)) (nat_abs l.fn.cleared.0) l.fn.out l.out l.left l.j
+invariant-loop-j l = Charged (curve_step l.fn.curve.steps) (curve_charge l.price l.fn.curve.steps (nat_abs l.fn.cleared.0)) (nat_abs l.fn.cleared.0) l.fn.out l.out l.left l.j

@@ -12,18 +12,18 @@ use Rattle.limits.specs.Together.{reserve_bounds_of}
 use Rattle.arith.proofs.Buffers.{rest_length, write_on}
 use Rattle.charges.specs.Terms.{energy_charge, reserve_charges}
 use Rattle.charges.proofs.Families.{numbers_count}
-use Rattle.charges.proofs.Known.{nets_fit, steps_fit, reserves_fit, bounds_fit, resource_listed}
+use Rattle.charges.proofs.Known.{energy_fits, bounds_fit, resource_listed}
 use Rattle.charges.proofs.write_resource.Goals as goal
-use Rattle.charges.proofs.write_resource.Goals.{After-bounds-uppers, After-offer_steps-steps, After-on_line-on, After-resource-resource, After-write_steps}
+use Rattle.charges.proofs.write_resource.Goals.{After-bounds-uppers, After-offer_steps-offer, After-on_line-on, After-resource-resource, After-write_steps}
 use Rattle.prices.specs.PricedCase.{the_case}
 
 resource : (c : After-resource-resource) →
     c.resource-resource.result ≡ record_of ((the_case c.args.kept.now.bounded.priced).resource c.args.i)
 resource c = c.resource-resource.ensures
 
-steps : (c : After-offer_steps-steps) →
-    c.offer_steps-steps.result ≡ offer_steps_of ((the_case c.args.kept.now.bounded.priced).resource c.args.i)
-steps c = c.offer_steps-steps.ensures
+steps : (c : After-offer_steps-offer) →
+    c.offer_steps-offer.result.steps ≡ offer_steps_of ((the_case c.args.kept.now.bounded.priced).resource c.args.i)
+steps c = c.offer_steps-offer.ensures
 
 on_line_is : (c : After-on_line-on) → c.on_line-on.result ≡ on_line ((the_case c.args.kept.now.bounded.priced).resource c.args.i)
 on_line_is c = c.on_line-on.ensures
@@ -39,26 +39,26 @@ write_steps-requires c =
     let p = c.args.kept.now.bounded.standing in
     let l = c.requires.room.0 in
     let room : 10 ≤ length c.args.out.now = omega (arith, c.requires.room.1) in
-    ((nets_fit p l c.nets_for-prices.ensures, steps_fit p l (steps (goal.at.write_steps-requires c).After-offer_steps-steps) c.amounts-amounts.ensures), room)
+    (energy_fits p l c.amounts-own.ensures, room)
 
 pub write_reserves-requires : goal.write_reserves-requires
 write_reserves-requires c =
     let p = c.args.kept.now.bounded.standing in
     let l = c.requires.room.0 in (
-      (nets_fit p l c.nets_for-prices.ensures, (reserves_fit p l c.amounts-amounts.ensures, bounds_fit p l (bounds (goal.at.write_reserves-requires c).After-bounds-uppers))),
+      bounds_fit p l (bounds (goal.at.write_reserves-requires c).After-bounds-uppers),
       rw (rest_length 10 c.write_steps.new.out) (omega (arith, room (goal.at.write_reserves-requires c).After-write_steps)),
     )
 
 pub returns : goal.returns
 returns c =
-    let n = c.nets_for-prices in
-    let a = c.amounts-amounts in
+    let n = c.nets_for-nets in
+    let a = c.amounts-own in
     let on = c.on_line-on in
     let u = c.bounds-uppers in
-    let p = c.offer_steps-steps.result in
+    let p = c.offer_steps-offer.result.steps in
     let w = c.write_steps in
     let x = c.write_reserves in
     let o = c.args.out.now in
-    let g = energy_charge n.result on.result p (nat_abs a.result.energy.0) in
-    write_on (map g (upto 10)) (reserve_charges n.result a.result u.result) o w.new.out x.new.out 10 4 10 (numbers_count g 10) refl (omega (arith, c.requires.room.1)) w.ensures x.ensures
-    ∙ ap (λ (l : List ℤ). l ++ drop resource_priced_count o) (resource_listed c.args.kept.now.bounded.standing c.requires.room.0 n.ensures (on_line_is (goal.at.returns c).After-on_line-on) (steps (goal.at.returns c).After-offer_steps-steps) a.ensures (bounds (goal.at.returns c).After-bounds-uppers))
+    let g = energy_charge n.result.prices on.result p (nat_abs a.result.amounts.energy.0) in
+    write_on (map g (upto 10)) (reserve_charges n.result.prices a.result.amounts u.result) o w.new.out x.new.out 10 4 10 (numbers_count g 10) refl (omega (arith, c.requires.room.1)) w.ensures x.ensures
+    ∙ ap (λ (l : List ℤ). l ++ drop resource_priced_count o) (resource_listed c.args.kept.now.bounded.standing c.requires.room.0 n.ensures (on_line_is (goal.at.returns c).After-on_line-on) (steps (goal.at.returns c).After-offer_steps-offer) a.ensures (bounds (goal.at.returns c).After-bounds-uppers))

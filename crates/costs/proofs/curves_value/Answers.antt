@@ -1,31 +1,27 @@
 use native.Mathlib.Omega.{arith}
-use Rattle.market.specs.Case.{operating, regulating_plus_spinning, regulating, short_term}
+use Rattle.market.specs.declared.Curve.TheVariants.{Operating as operating, RegulatingPlusSpinning as regulating_plus_spinning, Regulating as regulating, ShortTerm as short_term}
 use Rattle.market.specs.Records.{cleared_of}
 use Rattle.costs.specs.Worth.{curve_value}
 use Rattle.costs.proofs.Totals.{four_curves, curve_value_is}
-use Rattle.costs.proofs.Known.{curve_known, cleared_known, curve_size, two_curves_size, three_curves_size}
+use Rattle.costs.proofs.Known.{cleared_known, curve_size, two_curves_size, three_curves_size}
 use Rattle.prices.specs.PricedCase.{the_case, the_amounts}
 use Rattle.costs.proofs.curves_value.Goals as goal
 
 pub curve_value-operating-requires : goal.curve_value-operating-requires
 unfolding cleared_of
-curve_value-operating-requires c =
-    rw (c.curve.ensures, c.cleared-cleared.ensures) (curve_known c.args.bounded.now.standing operating, cleared_known c.args.bounded.now.standing operating)
+curve_value-operating-requires c = rw c.cleared-cleared.ensures (cleared_known c.args.bounded.now.standing operating)
 
 pub curve_value-spinning-requires : goal.curve_value-spinning-requires
 unfolding cleared_of
-curve_value-spinning-requires c =
-    rw (c.curve-2.ensures, c.cleared-cleared.ensures) (curve_known c.args.bounded.now.standing regulating_plus_spinning, cleared_known c.args.bounded.now.standing regulating_plus_spinning)
+curve_value-spinning-requires c = rw c.cleared-cleared.ensures (cleared_known c.args.bounded.now.standing regulating_plus_spinning)
 
 pub curve_value-regulating-requires : goal.curve_value-regulating-requires
 unfolding cleared_of
-curve_value-regulating-requires c =
-    rw (c.curve-3.ensures, c.cleared-cleared.ensures) (curve_known c.args.bounded.now.standing regulating, cleared_known c.args.bounded.now.standing regulating)
+curve_value-regulating-requires c = rw c.cleared-cleared.ensures (cleared_known c.args.bounded.now.standing regulating)
 
 pub curve_value-short_term-requires : goal.curve_value-short_term-requires
 unfolding cleared_of
-curve_value-short_term-requires c =
-    rw (c.curve-4.ensures, c.cleared-cleared.ensures) (curve_known c.args.bounded.now.standing short_term, cleared_known c.args.bounded.now.standing short_term)
+curve_value-short_term-requires c = rw c.cleared-cleared.ensures (cleared_known c.args.bounded.now.standing short_term)
 
 pub sum-requires : goal.sum-requires
 unfolding cleared_of

@@ -15,24 +15,24 @@ loop-i-init c = search rules
 pub added-highs-requires : goal.added-highs-requires
 added-highs-requires c =
     let l = c.loop-i in
-    turn_room c.args.bounded.now.standing c.args.g c.requires.flowgate high_of high_small l.i (omega arith) l.invariant.0 c.factor_at-factor.ensures (c.requires.energy_parts.high.each l.i (omega arith))
+    turn_room c.args.energies.now.bounded.standing c.args.g c.requires high_of high_small l.i (omega arith) l.invariant.0 c.factor_at-factor.ensures (c.args.energies.now.energy_parts.high.each l.i (omega arith))
 
 pub added-lows-requires : goal.added-lows-requires
 added-lows-requires c =
     let l = c.loop-i in
-    turn_room c.args.bounded.now.standing c.args.g c.requires.flowgate low_of low_small l.i (omega arith) l.invariant.1 c.factor_at-factor.ensures (c.requires.energy_parts.low.each l.i (omega arith))
+    turn_room c.args.energies.now.bounded.standing c.args.g c.requires low_of low_small l.i (omega arith) l.invariant.1 c.factor_at-factor.ensures (c.args.energies.now.energy_parts.low.each l.i (omega arith))
 
 pub loop-i-preserved : goal.loop-i-preserved
 loop-i-preserved c =
     let l = c.loop-i in
     let factor-is = c.factor_at-factor.ensures in
-    let high_is = c.requires.energy_parts.high.each l.i (omega arith) in
-    let low-is = c.requires.energy_parts.low.each l.i (omega arith) in (
-      turn_sum c.args.bounded.now.standing c.args.g c.requires.flowgate high_of high_small l.i (omega arith) l.invariant.0 factor-is high_is c.added-highs.ensures,
-      turn_sum c.args.bounded.now.standing c.args.g c.requires.flowgate low_of low_small l.i (omega arith) l.invariant.1 factor-is low-is c.added-lows.ensures,
+    let high_is = c.args.energies.now.energy_parts.high.each l.i (omega arith) in
+    let low-is = c.args.energies.now.energy_parts.low.each l.i (omega arith) in (
+      turn_sum c.args.energies.now.bounded.standing c.args.g c.requires high_of high_small l.i (omega arith) l.invariant.0 factor-is high_is c.added-highs.ensures,
+      turn_sum c.args.energies.now.bounded.standing c.args.g c.requires low_of low_small l.i (omega arith) l.invariant.1 factor-is low-is c.added-lows.ensures,
     )
 
 pub returns : goal.returns
 returns c =
     let l = c.loop-i in
-    c.joined.ensures ∙ ap watts (flow_is c.args.bounded.now.standing c.args.g c.requires.flowgate (omega arith) l.invariant.0 l.invariant.1)
+    c.joined.ensures ∙ ap watts (flow_is c.args.energies.now.bounded.standing c.args.g c.requires (omega arith) l.invariant.0 l.invariant.1)

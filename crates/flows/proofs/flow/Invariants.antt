@@ -5,4 +5,4 @@ use Rattle.prices.specs.PricedCase.{case_bytes, certificate_bytes}
 use Rattle.flows.proofs.flow.Given as goal
 
 abbrev pub invariant-loop-i : goal.invariant-loop-i
-invariant-loop-i l = (l.highs ≡ flow_from high_of (case_bytes l.bounded.priced) (certificate_bytes l.bounded.priced) l.g l.i) × (l.lows ≡ flow_from low_of (case_bytes l.bounded.priced) (certificate_bytes l.bounded.priced) l.g l.i)
+invariant-loop-i l = (l.highs ≡ flow_from high_of (case_bytes l.energies.bounded.priced) (certificate_bytes l.energies.bounded.priced) l.g l.i) × (l.lows ≡ flow_from low_of (case_bytes l.energies.bounded.priced) (certificate_bytes l.energies.bounded.priced) l.g l.i)

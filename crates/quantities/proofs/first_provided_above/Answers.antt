@@ -1,13 +1,14 @@
-use Rattle.std.proofs.Common.{◌≡◌, ◌+◌, ◌*◌, arith}
+use Rattle.std.proofs.Common.{◌≡◌, ap, ◌+◌, ◌*◌, arith}
 use Rattle.market.specs.declared.Refusal.TheVariants.{AboveBound}
 use Rattle.market.specs.UpperBounds.{upper_bound}
-use Rattle.case_records.proofs.Places.{resources_is}
-use Rattle.case_records.proofs.Ranged.{valid_steps}
 use Rattle.certificate_records.specs.Reader.{certificate_in}
 use Rattle.prices.specs.PricedCase.{the_case, the_amounts}
 use Rattle.market.specs.Refusals.{first_failing, found_at}
 use Rattle.market.specs.Outcome.{within_bound}
 use Rattle.units.proofs.Search.{search_none, search_more, search_stop}
+use Rattle.capabilities.proofs.Places.{kept_at}
+use Rattle.capabilities.specs.Kept.{capability_of}
+use Rattle.capabilities.specs.declared.Capability.{Capability}
 use Rattle.quantities.specs.Places.{first_provided, places_each}
 use Rattle.quantities.proofs.Above.{provided, five}
 use Rattle.quantities.proofs.first_provided_above.Goals as goal
@@ -16,18 +17,14 @@ use Rattle.quantities.proofs.first_provided_above.Goals.{After-provided_above}
 pub loop-i-init : goal.loop-i-init
 loop-i-init c = search_none _ _ provided places_each five _
 
-pub service_bounds-most-requires : goal.service_bounds-most-requires
-service_bounds-most-requires c =
-    let p = c.args.priced.now in
-    rw c.offer_steps.ensures (valid_steps _ p.prices_stand.valid c.loop-i.i (omega (arith, resources_is p.case.whole)))
-
 found : (c : After-provided_above) → found_at AboveBound c.provided_above.result ≡ first_failing (within_bound (the_case c.args.priced.now) (certificate_in c.args.priced.now.certificate)) AboveBound (first_provided + c.loop-i.i * places_each) (provided c.loop-i.i)
+unfolding capability_of
 found c =
     let i = c.loop-i.i in
     let p = c.args.priced.now in
     let case = the_case p in
-    let kept = c.requires.each i (omega arith) in
-    let most = c.service_bounds-most.ensures case i (c.on_line_at.ensures case kept) (c.bounds_at.ensures case kept) c.offer_steps.ensures in
+    let own = kept_at case c.requires i _ (omega arith) in
+    let most = c.service_bounds-most.ensures case i (ap (λ (k : Capability). k.on_line) own) (ap (λ (k : Capability). k.bounds) own) c.offer_steps.ensures in
     c.provided_above.ensures (the_amounts p) (upper_bound case) i c.amounts-given.ensures most
 
 pub returns-in-Some : goal.returns-in-Some

@@ -16,4 +16,4 @@ loop-g-preserved c =
     let l = c.loop-g in
     let value = c.flowgate_charge-value.result.0 in
     let e : to_z w64 (of_z w64 value) ≡ value = search (rules, to_z-of_z) in
-    rw (e, c.flowgate_charge-value.ensures) (row_written (row_charge_in (case_bytes c.args.bounded.now.priced) (certificate_bytes c.args.bounded.now.priced)) flowgate_row l.g c.args.out.now l.out (omega arith) l.invariant)
+    rw (e, c.flowgate_charge-value.ensures, c.new-energies.ensures.bounded) (row_written (row_charge_in (case_bytes c.args.bounded.now.priced) (certificate_bytes c.args.bounded.now.priced)) flowgate_row l.g c.args.out.now l.out (omega arith) l.invariant)

@@ -12,11 +12,11 @@ use Rattle.row_charges.proofs.write_market.Goals as goal
 
 pub write_four-requires : goal.write_four-requires
 write_four-requires c =
-    rw (c.market_prices-prices.ensures, c.requires.have_value, c.cleared-need.ensures)
-    (market_room (the_case c.args.bounded.now.priced) (the_amounts c.args.bounded.now.priced) (the_prices c.args.bounded.now.priced) (case_ranges c.args.bounded.now.standing.prices) (prices_in_range c.args.bounded.now.standing.prices) c.args.bounded.now.standing.bounded c.args.bounded.now.priced.case.resources (resources_is c.args.bounded.now.standing.prices.case_bytes), c.requires.room)
+    rw (c.market_prices-prices.ensures, c.args.have.now.market_given, c.cleared-need.ensures)
+    (market_room (the_case c.args.have.now.bounded.priced) (the_amounts c.args.have.now.bounded.priced) (the_prices c.args.have.now.bounded.priced) (case_ranges c.args.have.now.bounded.standing.prices) (prices_in_range c.args.have.now.bounded.standing.prices) c.args.have.now.bounded.standing.bounded c.args.have.now.bounded.priced.case.resources (resources_is c.args.have.now.bounded.standing.prices.case_bytes), c.requires)
 
 pub returns : goal.returns
 returns c =
     c.write_four.ensures
-    ∙ rw (c.market_prices-prices.ensures, c.requires.have_value, c.cleared-need.ensures)
-    (ap (λ (l : List ℤ). l ++ drop zone_row_count c.args.out.now) (market_charges (the_case c.args.bounded.now.priced) (the_amounts c.args.bounded.now.priced) (the_prices c.args.bounded.now.priced) c.args.bounded.now.priced.case.resources (resources_is c.args.bounded.now.standing.prices.case_bytes)))
+    ∙ rw (c.market_prices-prices.ensures, c.args.have.now.market_given, c.cleared-need.ensures)
+    (ap (λ (l : List ℤ). l ++ drop zone_row_count c.args.out.now) (market_charges (the_case c.args.have.now.bounded.priced) (the_amounts c.args.have.now.bounded.priced) (the_prices c.args.have.now.bounded.priced) c.args.have.now.bounded.priced.case.resources (resources_is c.args.have.now.bounded.standing.prices.case_bytes)))

@@ -21,7 +21,7 @@ zones-written : (c : After-out-2-1) →
 zones-written c =
     let h = row_charge_in (case_bytes c.args.kept.now.bounded.priced) (certificate_bytes c.args.kept.now.bounded.priced) in
     write_on (map h (balance_row ∷ market_rows)) (map h (zone_rows (the_case c.args.kept.now.bounded.priced))) c.args.out.now c.write_system.new.out c.write_zones.new.out
-    system_row_count (c.args.kept.now.bounded.priced.case.zones * zone_row_count) system_row_count refl refl (omega arith) c.write_system.ensures c.write_zones.ensures
+    system_row_count (c.args.kept.now.bounded.priced.case.zones * zone_row_count) system_row_count refl refl (omega arith) (rw c.totals-have.ensures at c.write_system.ensures) (rw c.totals-have.ensures at c.write_zones.ensures)
 
 pub returns : goal.returns
 returns c =

@@ -4,8 +4,6 @@ use native.Mathlib.Omega.{arith}
 use Rattle.arith.specs.Sums.{upto, across}
 use Rattle.market.specs.Case.{curves}
 use Rattle.market.specs.Rows.{zone_row, zone_row_count}
-use Rattle.reserves.specs.Given.{zone_total}
-use Rattle.arith.proofs.Tables.{table_entry}
 use Rattle.row_charges.specs.Families.{row_charge_in}
 use Rattle.row_charges.proofs.Written.{block_written}
 use Rattle.prices.specs.PricedCase.{case_bytes, certificate_bytes}
@@ -15,11 +13,7 @@ pub loop-zone-init : goal.loop-zone-init
 unfolding upto across
 loop-zone-init c = refl
 
-pub write_zone-requires-clause-have_value : goal.write_zone-requires-clause-have_value
-write_zone-requires-clause-have_value c =
-    rw c.requires.have_value (table_entry _ (zone_total (case_bytes c.args.bounded.now.priced) (certificate_bytes c.args.bounded.now.priced) c.args.bounded.now.priced.case.resources) 8 c.loop-zone.zone (omega (arith, c.args.bounded.now.standing.prices.case_bytes.counts.most_zones)))
-
 pub loop-zone-preserved : goal.loop-zone-preserved
 loop-zone-preserved c =
     let l = c.loop-zone in
-    block_written (row_charge_in (case_bytes c.args.bounded.now.priced) (certificate_bytes c.args.bounded.now.priced)) (λ k. map (zone_row k) curves) zone_row_count (λ k. refl) l.zone c.args.out.now l.out c.write_zone.new.out (omega arith) l.invariant c.write_zone.ensures
+    block_written (row_charge_in (case_bytes c.args.have.now.bounded.priced) (certificate_bytes c.args.have.now.bounded.priced)) (λ k. map (zone_row k) curves) zone_row_count (λ k. refl) l.zone c.args.out.now l.out c.write_zone.new.out (omega arith) l.invariant c.write_zone.ensures

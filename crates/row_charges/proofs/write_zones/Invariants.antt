@@ -10,4 +10,4 @@ use Rattle.prices.specs.PricedCase.{case_bytes, certificate_bytes}
 use Rattle.row_charges.proofs.write_zones.Given as goal
 
 abbrev pub invariant-loop-zone : goal.invariant-loop-zone
-invariant-loop-zone l = l.out ≡ map (row_charge_in (case_bytes l.bounded.priced) (certificate_bytes l.bounded.priced)) (across (λ k. map (zone_row k) curves) (upto l.zone)) ++ drop (l.zone * zone_row_count) l.fn.out
+invariant-loop-zone l = l.out ≡ map (row_charge_in (case_bytes l.have.bounded.priced) (certificate_bytes l.have.bounded.priced)) (across (λ k. map (zone_row k) curves) (upto l.zone)) ++ drop (l.zone * zone_row_count) l.fn.out

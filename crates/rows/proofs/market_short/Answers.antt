@@ -10,5 +10,5 @@ use Rattle.rows.proofs.market_short.Goals as goal
 
 pub returns : goal.returns
 returns c =
-    rw (c.first_short.ensures, c.requires, c.cleared-need.ensures, market_tests (the_case c.args.bounded.now.priced) (certificate_in c.args.bounded.now.priced.certificate) c.args.bounded.now.priced.case.resources (resources_is c.args.bounded.now.standing.prices.case_bytes))
-    (first_false_lem (row_met (the_case c.args.bounded.now.priced) (certificate_in c.args.bounded.now.priced.certificate)) RowBroken 2 market_rows)
+    rw (c.first_short.ensures, c.args.have.now.market_given, c.cleared-need.ensures, market_tests (the_case c.args.have.now.bounded.priced) (certificate_in c.args.have.now.bounded.priced.certificate) c.args.have.now.bounded.priced.case.resources (resources_is c.args.have.now.bounded.standing.prices.case_bytes))
+    (first_false_lem (row_met (the_case c.args.have.now.bounded.priced) (certificate_in c.args.have.now.bounded.priced.certificate)) RowBroken 2 market_rows)

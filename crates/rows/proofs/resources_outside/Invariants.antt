@@ -5,9 +5,10 @@ use Rattle.market.specs.Refusals.{clear, first_failing}
 use Rattle.market.specs.Outcome.{row_met}
 use mathlib.Core.List.{map}
 use Rattle.market.specs.Rows.{limit_row, limits}
+use Rattle.rows.specs.Tests.{first_limit_row}
 use Rattle.prices.specs.PricedCase.{the_case}
 use Rattle.certificate_records.specs.Reader.{certificate_in}
 use Rattle.rows.proofs.resources_outside.Given as goal
 
 abbrev pub invariant-loop-i : goal.invariant-loop-i
-invariant-loop-i l = first_failing (row_met (the_case l.kept.bounded.priced) (certificate_in l.kept.bounded.priced.certificate)) RowBroken l.first (across (λ i. map (limit_row i) limits) (upto l.i)) ≡ clear
+invariant-loop-i l = first_failing (row_met (the_case l.kept.bounded.priced) (certificate_in l.kept.bounded.priced.certificate)) RowBroken (first_limit_row l.kept.bounded.priced.case.zones l.kept.bounded.priced.case.flowgates) (across (λ i. map (limit_row i) limits) (upto l.i)) ≡ clear

@@ -12,4 +12,4 @@ use Rattle.certificate_records.specs.Reader.{certificate_in}
 use Rattle.rows.proofs.zones_short.Given as goal
 
 abbrev pub invariant-loop-zone : goal.invariant-loop-zone
-invariant-loop-zone l = first_failing (row_met (the_case l.bounded.priced) (certificate_in l.bounded.priced.certificate)) RowBroken first_zone_row (across (λ y. map (zone_row y) curves) (upto l.zone)) ≡ clear
+invariant-loop-zone l = first_failing (row_met (the_case l.have.bounded.priced) (certificate_in l.have.bounded.priced.certificate)) RowBroken first_zone_row (across (λ y. map (zone_row y) curves) (upto l.zone)) ≡ clear

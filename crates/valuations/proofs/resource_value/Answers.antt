@@ -28,5 +28,5 @@ pub returns : goal.returns
 returns c =
     record {
       worth_is = c.priced_value-priced.ensures.worth_is;
-      least_is = record { is = c.plus.ensures.is ∙ rw (rows (goal.at.returns c).After-limit_value-rows, c.priced_value-priced.ensures.least_is.is); size = omega arith };
+      least_is = record { is = c.sized_sum.ensures.is ∙ rw (rows (goal.at.returns c).After-limit_value-rows, c.priced_value-priced.ensures.least_is.is); size = omega arith };
     }

@@ -10,11 +10,11 @@ use Rattle.bounds.proofs.PricedSizes.{widths_next, widths_room}
 use Rattle.valuations.proofs.steps_value.Goals as goal
 use Rattle.valuations.proofs.steps_value.Goals.{Start}
 
-ranges : (c : Start) → StepRanges (offer_step c.args.steps) 10 2000000
-ranges c = offer_ranges c.requires.ranged_steps
+ranges : (c : Start) → StepRanges (offer_step c.args.offer.steps) 10 2000000
+ranges c = offer_ranges c.args.offer.ranged
 
 pub loop-step-init : goal.loop-step-init
-loop-step-init c = record { filled = none_filled (offer_step c.args.steps) 10 c.requires.provided; least = record { is = search (rules, sum_steps); size = omega arith } }
+loop-step-init c = record { filled = none_filled (offer_step c.args.offer.steps) 10 c.requires.provided; least = record { is = search (rules, sum_steps); size = omega arith } }
 
 pub worth-requires : goal.worth-requires
 worth-requires c =
@@ -26,8 +26,8 @@ sum-worth-requires c =
     let k = c.loop-step in
     worth_room (ranges (goal.at.sum-worth-requires c).Start) (omega arith) (omega arith) (nat_abs c.args.energy.0) k.step-index k.invariant.filled.0 (omega arith) c.fill-filled.ensures c.worth.ensures k.invariant.filled.1
 
-pub plus-least-requires : goal.plus-least-requires
-plus-least-requires c = omega (arith, widths_room c.requires.small_steps c.loop-step.step-index (omega arith))
+pub sized_sum-least-requires : goal.sized_sum-least-requires
+sized_sum-least-requires c = omega (arith, widths_room c.requires.small_steps c.loop-step.step-index (omega arith))
 
 pub loop-step-preserved : goal.loop-step-preserved
 loop-step-preserved c =

@@ -1,0 +1,25 @@
+// A case with a certificate that is past 13, with the two parts of each resource's energy.
+ghost use Rattle.std.specs.Prelude.{◌≡◌};
+ghost use Rattle.prices.specs.PricedCase.{certificate_bytes};
+ghost use Rattle.flows.specs.Parts.{EnergyParts};
+
+use prices::BoundedCase;
+
+#[derive(Clone, Copy)]
+pub struct Energies<'a> {
+    pub bounded: BoundedCase<'a>,
+    pub high: &'a [i16],
+    pub low: &'a [i16],
+    pub ghost energy_parts: { EnergyParts (certificate_bytes bounded.priced) bounded.priced.case.resources high.now low.now },
+}
+
+impl<'a> Energies<'a> {
+    pub fn new(bounded: BoundedCase<'a>, high: &'a [i16], low: &'a [i16]) -> Self
+        requires { EnergyParts (certificate_bytes bounded.priced) bounded.priced.case.resources high.now low.now }
+        ensures bounded { result.bounded ≡ bounded.entry }
+        ensures high { result.high ≡ high.entry }
+        ensures low { result.low ≡ low.entry }
+    {
+        Energies { bounded, high, low }
+    }
+}
