@@ -2,7 +2,7 @@
 #![tactic(auto)]
 
 ghost use Rattle.std.specs.Prelude.{◌≡◌, length};
-ghost use Rattle.market.specs.Refusals.{case_number_of, answer_of, count_of};
+ghost use Rattle.market.specs.Refusals.{case_number_of, answer_of};
 ghost use Rattle.market.specs.Outcome.{case_answer, price_answer, price_buffer, charge_answer, charge_buffer};
 ghost use Rattle.market.specs.Numbers.{read_case, read_case_buffer, read_certificate, read_certificate_buffer, write_case, write_case_buffer, write_certificate, write_certificate_buffer};
 ghost use Rattle.nostwier.specs.Reported.{Reported};
@@ -15,6 +15,7 @@ use market::{Answer, CheckResult, Count};
 pub extern "C" fn nostwier_check_case(c: &[u8]) -> u32
     ensures { result ≡ case_number_of (case_answer c.now) }
 {
+    // a bare number, which `From` cannot be written for: neither it nor `Result` is ours
     match case_check::check_case(c) {
         Ok(()) => 0,
         Err(why) => why.number(),

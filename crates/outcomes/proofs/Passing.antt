@@ -14,16 +14,13 @@ use Rattle.market.specs.Cost.{cost}
 use Rattle.market.specs.Bound.{bound}
 use Rattle.market.specs.Records.{counts_in}
 use Rattle.market.specs.Refusals.{clear, first_of}
-use Rattle.market.specs.Fits.{Fits64}
 use Rattle.market.specs.Outcome.{row_ground, grounds, grounds_to13, valuation, outcome}
 use Rattle.market.proofs.Grounds.{none_holds, all_clear}
 use Rattle.market.proofs.Passed.{grounds_are}
 use Rattle.market.proofs.Accepted.{demand3}
-use Rattle.market.proofs.Grounds.{answered_ok}
 use Rattle.market.proofs.Ranges.{valid_ranges, price_ranges}
 use Rattle.market.proofs.ScheduleSizes.{cost_size}
 use Rattle.market.proofs.BoundSizes.{bound_size}
-use Rattle.market.proofs.SumsFit.{sums_fit_in_ranges}
 use Rattle.market.specs.Refusals.{answered}
 use Rattle.case_check.proofs.Passing.{passed_clear, refused_holds}
 use Rattle.prices.specs.Standing.{Standing}
@@ -67,12 +64,3 @@ module _ (b q : List ℕ) where
   pub refused : (w : Refusal) → answered (counts_in (case_of b)) (first_of (grounds b q)) ≡ Err w → Checked b q (Err w)
   unfolding outcome
   refused w h = checked (Err w) (rw (refused_holds (counts_in (case_of b)) w (first_of (grounds b q)) h) refl)
-
--- ---- the numbers of success fit
-pub accepted_fits : (b q : List ℕ) (v : Valuation) → outcome b q ≡ Ok v → Fits64 v.cost.0 × Fits64 v.bound.0 × Fits64 v.gap.0
-unfolding outcome valuation
-accepted_fits b q v e =
-    let a = answered_ok (valuation (case_of b) (certificate_of q)) v (first_of (grounds b q)) e in
-    let s = all_standing b q (counts_in (case_of b)) (record { none_holds = a.0; counts = refl }) in
-    let fit = (sums_fit_in_ranges (case_of b) (certificate_of q).amount (certificate_of q).price (valid_ranges b s.prices.valid) s.bounded (price_ranges (case_of b) (certificate_of q) s.prices.in_range)).0 in
-    (rw (← a.1) fit.cost_fits, rw (← a.1) fit.bound_fits, rw (← a.1) fit.gap_fits)

@@ -3,26 +3,27 @@
 #![tactic(auto)]
 
 ghost use Rattle.std.specs.Prelude.{◌≡◌, ◌≤◌, length, IfOk};
+ghost use Rattle.market.specs.CaseCheck.{most_resources};
 ghost use Rattle.market.specs.CaseFile.{case_of};
 ghost use Rattle.market.specs.Certificate.{certificate_of};
 ghost use Rattle.market.specs.Records.{counts_in};
 ghost use Rattle.market.specs.Refusals.{first_of};
 ghost use Rattle.market.specs.Outcome.{grounds, valuation, room, price_answer, price_buffer, charge_answer, charge_buffer};
 ghost use Rattle.market.specs.Refusals.{answered};
-ghost use Rattle.capabilities.specs.Kept.{most_numbers, Kept};
+ghost use Rattle.capabilities.specs.Kept.{Kept};
 ghost use Rattle.quantities.specs.Filing.{Decided};
 ghost use Rattle.prices.specs.Standing.{Standing};
 ghost use Rattle.outcomes.specs.Checked.{Checked};
 ghost use Rattle.prices.specs.PricedCase.{case_bytes, certificate_bytes};
 
-use capabilities::{KeptCase, MOST_NUMBERS};
+use capabilities::{Capability, KeptCase, UNDECIDED};
 use market::{
     Counts, RESOURCE_CHARGES, Refusal, SYSTEM_CHARGES, Valuation, ZONE_PRICES, ZONE_ROWS,
 };
 use prices::{BoundedCase, PricedCase};
 
 // A case and a certificate of these counts that are past 13, with what is kept of the case's resources.
-fn kept_case<'a>(b: &'a [u8], q: &'a [u8], n: Counts, kept: &'a [i32]) -> KeptCase<'a>
+fn kept_case<'a>(b: &'a [u8], q: &'a [u8], n: Counts, kept: &'a [Capability]) -> KeptCase<'a>
     requires { Standing b.now q.now n.resources n.zones n.flowgates × Kept (case_of b.now) n.resources kept.now }
     ensures case { case_bytes result.bounded.priced ≡ b.now }
     ensures certificate { certificate_bytes result.bounded.priced ≡ q.now }
@@ -30,14 +31,14 @@ fn kept_case<'a>(b: &'a [u8], q: &'a [u8], n: Counts, kept: &'a [i32]) -> KeptCa
     ensures zones { result.bounded.priced.case.zones ≡ n.zones }
     ensures flowgates { result.bounded.priced.case.flowgates ≡ n.flowgates }
 {
-    let priced = PricedCase::new(b, q, n.resources, n.zones, n.flowgates);
+    let priced = PricedCase::new(b, q, n);
     KeptCase::new(BoundedCase::new(priced), kept)
 }
 
 // 1 to 14: the counts of a case and a certificate that have passed them, or the first ground that holds. Where they pass, what is
 // decided of each resource is left in `kept`.
-fn rows_stage(b: &[u8], q: &[u8], kept: &mut [i32]) -> Result<Counts, Refusal>
-    requires { most_numbers ≤ length kept.old }
+fn rows_stage(b: &[u8], q: &[u8], kept: &mut [Capability]) -> Result<Counts, Refusal>
+    requires { most_resources ≤ length kept.old }
     ensures { (result ≡ answered (counts_in (case_of b.now)) (first_of (grounds b.now q.now))) × Decided b.now result kept.new }
 {
     // a stage's answer is taken apart by let else, the refusal returned (01, 'Where each form belongs')
@@ -52,12 +53,11 @@ fn rows_stage(b: &[u8], q: &[u8], kept: &mut [i32]) -> Result<Counts, Refusal>
 }
 
 // Cost, bound and gap of a certificate that stands.
-fn valued(b: &[u8], q: &[u8], n: Counts, kept: &[i32]) -> Valuation
-    requires { Standing b.now q.now n.resources n.zones n.flowgates × Kept (case_of b.now) n.resources kept.now }
-    ensures { result ≡ valuation (case_of b.now) (certificate_of q.now) }
+#[tactic(auto, unfolding(market::specs::Outcome::valuation))]
+fn valued(kept: &KeptCase<'_>) -> Valuation
+    ensures { result ≡ valuation (case_of (case_bytes kept.now.bounded.priced)) (certificate_of (certificate_bytes kept.now.bounded.priced)) }
 {
-    let kept = kept_case(b, q, n, kept);
-    let resources = valuations::resources_value(&kept);
+    let resources = valuations::resources_value(kept);
     let cost = costs::cost(&kept.bounded, resources.worth);
     let bound = bounds::bound(&kept.bounded, resources.least);
     let gap = units::difference(cost, bound);
@@ -68,9 +68,9 @@ fn valued(b: &[u8], q: &[u8], n: Counts, kept: &[i32]) -> Valuation
 pub fn check_certificate(b: &[u8], q: &[u8]) -> Result<Valuation, Refusal>
     ensures { Checked b.now q.now result }
 {
-    let mut kept = [0i32; MOST_NUMBERS];
+    let mut kept = UNDECIDED;
     let n = rows_stage(b, q, &mut kept)?;
-    Ok(valued(b, q, n, &kept))
+    Ok(valued(&kept_case(b, q, n, &kept)))
 }
 
 // 15: a lent buffer of n numbers, where more are needed.
@@ -84,11 +84,12 @@ fn room(needed: usize, n: usize) -> Result<(), Refusal>
     Ok(())
 }
 
-// Writes the LMPs and zone prices: 1 to 14, then 15.
+// Writes the LMPs and zone prices: 1 to 14, then 15. This and the next are the C interface's two calls; what they share is
+// `rows_stage`, `room` and `kept_case`.
 pub fn deliver_prices(b: &[u8], q: &[u8], out: &mut [i64]) -> Result<(), Refusal>
     ensures { (result ≡ price_answer b.now q.now (length out.old)) × (out.new ≡ price_buffer b.now q.now out.old) }
 {
-    let mut kept = [0i32; MOST_NUMBERS];
+    let mut kept = UNDECIDED;
     let n = rows_stage(b, q, &mut kept)?;
     room(n.resources + ZONE_PRICES * n.zones, out.len())?;
     price_list::write_prices(&kept_case(b, q, n, &kept).bounded, out);
@@ -99,7 +100,7 @@ pub fn deliver_prices(b: &[u8], q: &[u8], out: &mut [i64]) -> Result<(), Refusal
 pub fn deliver_charges(b: &[u8], q: &[u8], out: &mut [i64]) -> Result<(), Refusal>
     ensures { (result ≡ charge_answer b.now q.now (length out.old)) × (out.new ≡ charge_buffer b.now q.now out.old) }
 {
-    let mut kept = [0i32; MOST_NUMBERS];
+    let mut kept = UNDECIDED;
     let n = rows_stage(b, q, &mut kept)?;
     let own = RESOURCE_CHARGES * n.resources;
     room(

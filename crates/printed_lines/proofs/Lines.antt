@@ -4,12 +4,12 @@ use Rattle.market.specs.declared.Kw.{Kw}
 use Rattle.std.specs.Prelude.{Ok}
 use mathlib.Core.Path.{◌≡◌, refl, sym, ◌∙◌, ap}
 use mathlib.Core.List.{List, [], ◌∷◌, ◌++◌, append_assoc}
-use Prim.Native.Nat.{ℕ, zero, suc, ◌*◌, ◌<◌, ◌≤◌}
+use Prim.Native.Nat.{ℕ, zero, suc, ◌+◌, ◌*◌, ◌<◌, ◌≤◌}
 use native.Mathlib.Omega.{arith}
 use lib.IntN.{ℤ, pos}
 use lib.ListN.{length, length-append}
 use Rattle.arith.specs.Sums.{upto, across}
-use Rattle.arith.proofs.Lists.{length-upto}
+use Rattle.arith.proofs.Lists.{length-upto, across-upto}
 use Rattle.market.specs.declared.Grains.{Grains}
 use Rattle.market.specs.declared.Millicents.{Millicents}
 use Rattle.market.specs.declared.Refusal.{Refusal}
@@ -29,9 +29,11 @@ use Rattle.market.specs.Program.{decimal, line, cost_word, bound_word, gap_word,
 use Rattle.prices.specs.declared.ZonePrices.{ZonePrices}
 use Rattle.prices.specs.ZonePrices.{zone_prices_of}
 use Rattle.decimals.proofs.Digits.{decimal_most}
-use Rattle.decimals.proofs.Front.{across_most, line_most}
-use Rattle.printed_lines.specs.Lines.{amount_figures, value_line, bound_and_gap, head_lines, resource_text, zone_text, schedule_lines}
-use Rattle.printed_lines.specs.Room.{most_value_line, most_bound_and_gap, most_head, most_resource_line, most_zone_line, most_schedule, most_refusal}
+use Rattle.decimals.proofs.Front.{across_most, line_most, adds_nothing, adds_on, room_left}
+use Rattle.decimals.specs.declared.Text.{Text}
+use Rattle.decimals.specs.Written.{HasRoom, Adds}
+use Rattle.printed_lines.specs.Lines.{amount_figures, value_line, head_lines, resource_text, zone_text, schedule_lines}
+use Rattle.printed_lines.specs.Room.{most_value_line, most_head, most_resource_line, most_zone_line, most_schedule, most_refusal}
 
 -- ---- refusals
 a_place : (p : ℕ) → 0 < p → place_figures p ≡ pos p ∷ []
@@ -56,17 +58,15 @@ unfolding refusal_line
 refusal_most r = omega (arith, line_most refused_word (pos (number_of r) ∷ place_figures (place_of r)), places_most (place_of r))
 
 -- ---- cost, bound, gap
-pub value_most : (word : List ℕ) (v : Grains) (r : ℕ) → r ≡ length (value_line word v) → r ≤ most_value_line (length word)
-value_most word v r e = omega (arith, e, line_most word (v.0 ∷ []))
-
-pub bound_and_gap_most : (v : Valuation) → length (bound_and_gap v) ≤ most_bound_and_gap
-unfolding bound_and_gap
-bound_and_gap_most v =
-    omega (arith, length-append (value_line bound_word v.bound) (value_line gap_word v.gap), line_most bound_word (v.bound.0 ∷ []), line_most gap_word (v.gap.0 ∷ []))
+pub value_most : (word : List ℕ) (v : Grains) → length (value_line word v) ≤ most_value_line (length word)
+value_most word v = line_most word (v.0 ∷ [])
 
 pub head_most : (v : Valuation) → length (head_lines v) ≤ most_head
 unfolding head_lines
-head_most v = omega (arith, length-append (value_line cost_word v.cost) (bound_and_gap v), line_most cost_word (v.cost.0 ∷ []), bound_and_gap_most v)
+head_most v =
+    let b = value_line bound_word v.bound in
+    let g = value_line gap_word v.gap in
+    omega (arith, length-append (value_line cost_word v.cost) (b ++ g), length-append b g, value_most cost_word v.cost, value_most bound_word v.bound, value_most gap_word v.gap)
 
 -- ---- resources and zones
 -- figures that are those of a record
@@ -81,6 +81,21 @@ pub zone_text_is : (z : ℕ) (p : ZonePrices) {n g s m h : ℤ} → n ≡ pos (s
     → line zone_word (n ∷ g ∷ s ∷ m ∷ h ∷ []) ≡ zone_text z p
 unfolding zone_text
 zone_text_is z p en eg es em eh = rw (en, eg, es, em, eh)
+
+-- the lines of the first n of a kind, none longer than m, one behind the other
+module _ (f : ℕ → List ℕ) (m : ℕ) (most : (i : ℕ) → length (f i) ≤ m) where
+  pub lines_most : (n : ℕ) → length (across f (upto n)) ≤ m * n
+  lines_most n = rw (ap (λ (k : ℕ). m * k) (sym (length-upto n))) (across_most f m most (upto n))
+
+  pub next_room : (x y : Text) (i n : ℕ) → m * i + m ≤ m * n → HasRoom (m * n) x → Adds (across f (upto i)) x y → HasRoom m y
+  next_room x y i n h room a = room_left (across f (upto i)) x y (m * i) m (omega arith) (lines_most i) a
+
+  pub next_line : (x y z : Text) (i n : ℕ) → m * i + m ≤ m * n → HasRoom (m * n) x → Adds (across f (upto i)) x y → Adds (f i) y z → Adds (across f (upto (i + 1))) x z
+  next_line x y z i n h room a b = rw (across-upto f i) (adds_on (across f (upto i)) (f i) x y z (omega (arith, lines_most i)) a b)
+
+  pub no_line : (x : Text) → Adds (across f (upto 0)) x x
+  unfolding upto across
+  no_line x = adds_nothing x
 
 module _ (c : Case) (k : Certificate) where
   pub resource_line_is : (i : ℕ) (v : Availability) (a : (PerService Kw)) (p : Millicents) → v ≡ availability_of (c.resource i) → a ≡ amounts_of k.amount i → p ≡ millicents (lmp_of c k.price i)
@@ -105,10 +120,10 @@ module _ (c : Case) (k : Certificate) where
   zone_most z = omega (arith, line_most zone_word (pos (suc z) ∷ zone_prices k.price z))
 
   pub resources_most : (n : ℕ) → length (across (resource_line c k) (upto n)) ≤ most_resource_line * n
-  resources_most n = omega (arith, across_most (resource_line c k) most_resource_line resource_most (upto n), length-upto n)
+  resources_most = lines_most (resource_line c k) most_resource_line resource_most
 
   pub zones_most : (n : ℕ) → length (across (zone_line k) (upto n)) ≤ most_zone_line * n
-  zones_most n = omega (arith, across_most (zone_line k) most_zone_line zone_most (upto n), length-upto n)
+  zones_most = lines_most (zone_line k) most_zone_line zone_most
 
   -- ---- all lines
   pub schedule_most : c.resources ≤ most_resources → c.zones ≤ most_zones → length (schedule_lines c k) ≤ most_schedule
@@ -123,7 +138,7 @@ module _ (c : Case) (k : Certificate) where
   schedule_is r z er ez = rw (er, ez)
 
   pub accepted_lines : (v : Valuation) → head_lines v ++ schedule_lines c k ≡ report c k (Ok v)
-  unfolding report head_lines bound_and_gap schedule_lines
+  unfolding report head_lines schedule_lines
   accepted_lines v =
       let rest = across (resource_line c k) (upto c.resources) ++ across (zone_line k) (upto c.zones) in
       append_assoc (value_line cost_word v.cost) (value_line bound_word v.bound ++ value_line gap_word v.gap) rest

@@ -17,11 +17,8 @@ use Rattle.price_list.specs.Numbers.{numbers_of}
 abbrev pub value_line : List ℕ → Grains → List ℕ
 value_line word value = line word (value.0 ∷ [])
 
-unfoldable pub bound_and_gap : Valuation → List ℕ
-bound_and_gap values = value_line bound_word values.bound ++ value_line gap_word values.gap
-
 unfoldable pub head_lines : Valuation → List ℕ
-head_lines values = value_line cost_word values.cost ++ bound_and_gap values
+head_lines values = value_line cost_word values.cost ++ (value_line bound_word values.bound ++ value_line gap_word values.gap)
 
 -- e g c s o
 abbrev pub amount_figures : (PerService Kw) → List ℤ

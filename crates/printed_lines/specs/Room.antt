@@ -3,15 +3,13 @@ use Rattle.std.specs.Prelude.{ℕ, ◌+◌, ◌*◌}
 use Rattle.market.specs.CaseCheck.{most_resources, most_zones}
 use Rattle.decimals.specs.Written.{most_decimal, most_figures}
 
--- a word and a number; 'cost', 'bound', 'gap'
+-- a word and a number
 abbrev pub most_value_line : ℕ → ℕ
 most_value_line word = word + most_figures 1
 
-abbrev pub most_bound_and_gap : ℕ
-most_bound_and_gap = most_value_line 5 + most_value_line 3
-
+-- 'cost', 'bound', 'gap'
 abbrev pub most_head : ℕ
-most_head = most_value_line 4 + most_bound_and_gap
+most_head = most_value_line 4 + most_value_line 5 + most_value_line 3
 
 -- number, on-line, e g c s o, LMP
 abbrev pub most_resource_line : ℕ

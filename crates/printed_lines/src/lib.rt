@@ -1,65 +1,51 @@
-// The lines that the program prints, of a refusal or of an accepted certificate. Each function writes at the front of a
-// lent buffer, which has to be long enough, and answers how many bytes that is. What stands beyond them stays as it was.
+// The lines that the program prints, of a refusal or of an accepted certificate. Each function adds its own to a text, which has
+// to have room for them.
 #![tactic(auto)]
 
-ghost use Rattle.std.specs.Prelude.{Ok};
-ghost use Rattle.std.specs.Prelude.{◌*◌, ◌<◌, ◌≤◌, length};
+ghost use Rattle.std.specs.Prelude.{Ok, ◌*◌, ◌<◌, length};
 ghost use Rattle.arith.specs.Sums.{upto, across};
-ghost use Rattle.market.specs.CaseFile.{case_of};
 ghost use Rattle.market.specs.CaseCheck.{most_resources, most_zones};
-ghost use Rattle.market.specs.Certificate.{certificate_of};
 ghost use Rattle.market.specs.Program.{refusal_line, resource_line, zone_line, report as reportOf};
-ghost use Rattle.prices.specs.Standing.{PricesStand};
-ghost use Rattle.decimals.specs.Written.{Wrote};
-ghost use Rattle.printed_lines.specs.Lines.{value_line, bound_and_gap, head_lines, resource_text, zone_text, schedule_lines};
-ghost use Rattle.printed_lines.specs.Room.{most_value_line, most_bound_and_gap, most_head, most_schedule, most_resource_line, most_zone_line, most_refusal, most_text};
+ghost use Rattle.decimals.specs.Written.{HasRoom, Adds};
+ghost use Rattle.printed_lines.specs.Lines.{value_line, head_lines, resource_text, zone_text, schedule_lines};
+ghost use Rattle.printed_lines.specs.Room.{most_value_line, most_head, most_schedule, most_resource_line, most_zone_line, most_refusal, most_text};
 ghost use Rattle.prices.specs.PricedCase.{the_case};
 ghost use Rattle.certificate_records.specs.Reader.{certificate_in};
 
-use market::{Amounts, Availability, Counts, Grains, Millicents, Refusal, Valuation};
+use decimals::{Label, Text};
+use market::{Amounts, Availability, Grains, Millicents, Refusal, Valuation};
 use prices::{PricedCase, ZonePrices};
 
 // `refused N` or `refused N PLACE`.
-pub fn refusal_line(why: Refusal, out: &mut [u8]) -> usize
-    requires { most_refusal ≤ length out.old }
-    ensures { Wrote (refusal_line why) out.old out.new result }
+pub fn refusal_line(why: Refusal, text: &mut Text<'_>)
+    requires { HasRoom most_refusal text.old }
+    ensures { Adds (refusal_line why) text.old text.new }
 {
-    let number = why.number();
+    let number = i64::from(why.number());
     let place = why.place();
+    // A 0 is no place, as `Program.place_figures` has it: a match of the refusals would print the 0 of an `AboveBound(0)`.
     if place == 0 {
-        let figures = [number as i64];
-        return decimals::write_line(b"refused", &figures, out);
+        return text.line(Label::Word(b"refused"), &[number]);
     }
-    let figures = [number as i64, place as i64];
-    decimals::write_line(b"refused", &figures, out)
+    text.line(Label::Word(b"refused"), &[number, i64::from(place)]);
 }
 
 // ---- cost, bound and gap
 
-fn value_line(word: &[u8], v: Grains, out: &mut [u8]) -> usize
-    requires { most_value_line (length word.now) ≤ length out.old }
-    ensures { Wrote (value_line word.now v) out.old out.new result }
+fn value_line(word: &[u8], v: Grains, text: &mut Text<'_>)
+    requires { HasRoom (most_value_line (length word.now)) text.old }
+    ensures { Adds (value_line word.now v) text.old text.new }
 {
-    let figures = [v.0];
-    decimals::write_line(word, &figures, out)
+    text.line(Label::Word(word), &[v.0]);
 }
 
-fn bound_and_gap(v: Valuation, out: &mut [u8]) -> usize
-    requires { most_bound_and_gap ≤ length out.old }
-    ensures { Wrote (bound_and_gap v) out.old out.new result }
+fn head_lines(v: Valuation, text: &mut Text<'_>)
+    requires { HasRoom most_head text.old }
+    ensures { Adds (head_lines v) text.old text.new }
 {
-    let at = value_line(b"bound", v.bound, out);
-    let count = value_line(b"gap", v.gap, &mut out[at..]);
-    at + count
-}
-
-fn head_lines(v: Valuation, out: &mut [u8]) -> usize
-    requires { most_head ≤ length out.old }
-    ensures { Wrote (head_lines v) out.old out.new result }
-{
-    let at = value_line(b"cost", v.cost, out);
-    let count = bound_and_gap(v, &mut out[at..]);
-    at + count
+    value_line(b"cost", v.cost, text);
+    value_line(b"bound", v.bound, text);
+    value_line(b"gap", v.gap, text);
 }
 
 // ---- resources
@@ -69,10 +55,10 @@ fn resource_text(
     availability: Availability,
     a: Amounts,
     price: Millicents,
-    out: &mut [u8],
-) -> usize
-    requires { (i < most_resources) × (most_resource_line ≤ length out.old) }
-    ensures { Wrote (resource_text i availability a price) out.old out.new result }
+    text: &mut Text<'_>,
+)
+    requires { (i < most_resources) × HasRoom most_resource_line text.old }
+    ensures { Adds (resource_text i availability a price) text.old text.new }
 {
     let on_line = availability.printed();
     let figures = [
@@ -84,38 +70,36 @@ fn resource_text(
         a.off_line_short_term.0,
         price.0,
     ];
-    let number = i as i64 + 1;
-    decimals::write_numbered(number, &figures, out)
+    text.line(Label::Number(i as i64 + 1), &figures);
 }
 
-fn resource_line(priced: &PricedCase<'_>, i: usize, out: &mut [u8]) -> usize
-    requires { (i < priced.now.case.resources) × (most_resource_line ≤ length out.old) }
-    ensures { Wrote (resource_line (the_case priced.now) (certificate_in priced.now.certificate) i) out.old out.new result }
+fn resource_line(priced: &PricedCase<'_>, i: usize, text: &mut Text<'_>)
+    requires { (i < priced.now.case.resources) × HasRoom most_resource_line text.old }
+    ensures { Adds (resource_line (the_case priced.now) (certificate_in priced.now.certificate) i) text.old text.new }
 {
     let record = priced.case.resource(i);
     let availability = limits::availability_of(record);
     let a = priced.certificate.amounts(i);
     let price = priced.lmp(i);
-    resource_text(i, availability, a, price, out)
+    resource_text(i, availability, a, price, text);
 }
 
-fn resource_lines(priced: &PricedCase<'_>, out: &mut [u8]) -> usize
-    requires { most_resource_line * priced.now.case.resources ≤ length out.old }
-    ensures { Wrote (across (resource_line (the_case priced.now) (certificate_in priced.now.certificate)) (upto priced.now.case.resources)) out.old out.new result }
+// The loop over the zones stays beside this one: one function for both would take the line as a closure, whose contract says for
+// every text what a call adds to it, in place of a body of one call.
+fn resource_lines(priced: &PricedCase<'_>, text: &mut Text<'_>)
+    requires { HasRoom (most_resource_line * priced.now.case.resources) text.old }
+    ensures { Adds (across (resource_line (the_case priced.now) (certificate_in priced.now.certificate)) (upto priced.now.case.resources)) text.old text.new }
 {
-    let mut at: usize = 0;
     for i in 0..priced.case.resources {
-        let count = resource_line(priced, i, &mut out[at..]);
-        at += count;
+        resource_line(priced, i, text);
     }
-    at
 }
 
 // ---- zones
 
-fn zone_text(zone: usize, p: ZonePrices, out: &mut [u8]) -> usize
-    requires { (zone < most_zones) × (most_zone_line ≤ length out.old) }
-    ensures { Wrote (zone_text zone p) out.old out.new result }
+fn zone_text(zone: usize, p: ZonePrices, text: &mut Text<'_>)
+    requires { (zone < most_zones) × HasRoom most_zone_line text.old }
+    ensures { Adds (zone_text zone p) text.old text.new }
 {
     let number = zone as i64 + 1;
     let figures = [
@@ -125,46 +109,41 @@ fn zone_text(zone: usize, p: ZonePrices, out: &mut [u8]) -> usize
         p.supplemental.0,
         p.short_term.0,
     ];
-    decimals::write_line(b"zone", &figures, out)
+    text.line(Label::Word(b"zone"), &figures);
 }
 
-fn zone_line(priced: &PricedCase<'_>, zone: usize, out: &mut [u8]) -> usize
-    requires { (zone < priced.now.case.zones) × (most_zone_line ≤ length out.old) }
-    ensures { Wrote (zone_line (certificate_in priced.now.certificate) zone) out.old out.new result }
+fn zone_line(priced: &PricedCase<'_>, zone: usize, text: &mut Text<'_>)
+    requires { (zone < priced.now.case.zones) × HasRoom most_zone_line text.old }
+    ensures { Adds (zone_line (certificate_in priced.now.certificate) zone) text.old text.new }
 {
     let p = priced.zone_prices(zone);
-    zone_text(zone, p, out)
+    zone_text(zone, p, text);
 }
 
-fn zone_lines(priced: &PricedCase<'_>, out: &mut [u8]) -> usize
-    requires { most_zone_line * priced.now.case.zones ≤ length out.old }
-    ensures { Wrote (across (zone_line (certificate_in priced.now.certificate)) (upto priced.now.case.zones)) out.old out.new result }
+fn zone_lines(priced: &PricedCase<'_>, text: &mut Text<'_>)
+    requires { HasRoom (most_zone_line * priced.now.case.zones) text.old }
+    ensures { Adds (across (zone_line (certificate_in priced.now.certificate)) (upto priced.now.case.zones)) text.old text.new }
 {
-    let mut at: usize = 0;
     for zone in 0..priced.case.zones {
-        let count = zone_line(priced, zone, &mut out[at..]);
-        at += count;
+        zone_line(priced, zone, text);
     }
-    at
 }
 
 // ---- the whole
 
 // What follows cost, bound and gap.
-fn schedule_lines(priced: &PricedCase<'_>, out: &mut [u8]) -> usize
-    requires { most_schedule ≤ length out.old }
-    ensures { Wrote (schedule_lines (the_case priced.now) (certificate_in priced.now.certificate)) out.old out.new result }
+fn schedule_lines(priced: &PricedCase<'_>, text: &mut Text<'_>)
+    requires { HasRoom most_schedule text.old }
+    ensures { Adds (schedule_lines (the_case priced.now) (certificate_in priced.now.certificate)) text.old text.new }
 {
-    let at = resource_lines(priced, out);
-    let count = zone_lines(priced, &mut out[at..]);
-    at + count
+    resource_lines(priced, text);
+    zone_lines(priced, text);
 }
 
-pub fn accepted_text(priced: &PricedCase<'_>, v: Valuation, out: &mut [u8]) -> usize
-    requires { most_text ≤ length out.old }
-    ensures { Wrote (reportOf (the_case priced.now) (certificate_in priced.now.certificate) (Ok v)) out.old out.new result }
+pub fn accepted_text(priced: &PricedCase<'_>, v: Valuation, text: &mut Text<'_>)
+    requires { HasRoom most_text text.old }
+    ensures { Adds (reportOf (the_case priced.now) (certificate_in priced.now.certificate) (Ok v)) text.old text.new }
 {
-    let at = head_lines(v, out);
-    let count = schedule_lines(priced, &mut out[at..]);
-    at + count
+    head_lines(v, text);
+    schedule_lines(priced, text);
 }

@@ -5,6 +5,7 @@ use mathlib.Core.Path.{◌≡◌, refl, sym, ◌∙◌, ap}
 use mathlib.Core.Bool.{Bool}
 use mathlib.Core.List.{List}
 use Prim.Native.Nat.{ℕ, ◌+◌, ◌-◌, ◌<◌, ◌≤◌, min}
+use native.Mathlib.Nat.{zero-add}
 use native.Mathlib.Decide.{dec_lt}
 use native.Mathlib.Omega.{arith}
 use lib.ListN.{length, take, drop, length-append, drop_of_length-le}
@@ -23,7 +24,8 @@ use Rattle.market.specs.Program.{report, refusal_line, printed, printed_of, case
 use Rattle.prices.specs.Standing.{Standing}
 use Rattle.outcomes.proofs.Passing.{all_standing}
 use Rattle.arith.proofs.Buffers.{rest_is}
-use Rattle.decimals.specs.Written.{Wrote}
+use Rattle.decimals.specs.declared.Text.{Text}
+use Rattle.decimals.specs.Written.{Adds}
 use Rattle.printed_lines.specs.Lines.{head_lines, schedule_lines}
 use Rattle.printed_lines.specs.Room.{most_text}
 use Rattle.printed_lines.proofs.Lines.{refusal_most, head_most, schedule_fits, accepted_lines}
@@ -92,9 +94,10 @@ module _ (input old : List ℕ) where
   unfolding report_count report_buffer
   too_short h = let e = lt-leb most_text (length old) h in (rw e, rw e)
 
-  pub written : (new : List ℕ) (r : ℕ) → most_text ≤ length old → Wrote (printed input) old new r → (r ≡ report_count input (length old)) × (new ≡ report_buffer input old)
+  pub written : (start text : Text) → start.buffer.now ≡ old → start.length ≡ 0 → most_text ≤ length old → Adds (printed input) start text
+      → (text.length ≡ report_count input (length old)) × (text.buffer.now ≡ report_buffer input old)
   unfolding report_count report_buffer
-  written new r h w = let e = le-leb most_text (length old) h in (rw e w.0, rw e w.1)
+  written start text eb el h w = let e = le-leb most_text (length old) h in (rw e (w.1 ∙ rw el (zero-add (length (printed input)))), rw e (w.2 ∙ rw (eb, el, zero-add) refl))
 
 -- a caller finds the text within the buffer
 pub count_within : (input : List ℕ) (room r : ℕ) → r ≡ report_count input room → r ≤ room

@@ -1,18 +1,17 @@
-// The program's text, from the bytes of its input on: the lines of an accepted certificate, or its refusal. Each function
-// writes at the front of a lent buffer and answers how many bytes that is; what stands beyond them stays as it was.
+// The program's text, from the bytes of its input on: the lines of an accepted certificate, or its refusal.
 #![tactic(auto)]
 
-ghost use Rattle.std.specs.Prelude.{◌≡◌, ◌+◌, ◌≤◌, min, length};
+ghost use Rattle.std.specs.Prelude.{◌≡◌, ◌+◌, min, length};
 ghost use Rattle.market.specs.Bytes.{u32_at};
 ghost use Rattle.market.specs.CaseFile.{case_of};
 ghost use Rattle.market.specs.Certificate.{certificate_of};
 ghost use Rattle.market.specs.Outcome.{outcome};
-ghost use Rattle.market.specs.Program.{report as reportOf};
-ghost use Rattle.decimals.specs.Written.{Wrote};
+ghost use Rattle.market.specs.Program.{printed, report as reportOf};
+ghost use Rattle.decimals.specs.Written.{HasRoom, Adds};
 ghost use Rattle.printed_lines.specs.Room.{most_text};
 ghost use Rattle.report.specs.Buffer.{report_count, report_buffer};
 
-use decimals::{MOST_DECIMAL, MOST_FIGURE};
+use decimals::{MOST_DECIMAL, MOST_FIGURE, Text};
 use market::{MOST_RESOURCES, MOST_ZONES, Refusal};
 use prices::PricedCase;
 
@@ -29,18 +28,17 @@ pub const MOST_TEXT: usize = 4
 pub const MOST_INPUT: usize = 32768;
 
 // Of a case and a certificate.
-fn outcome_text(b: &[u8], q: &[u8], out: &mut [u8]) -> usize
-    requires { most_text ≤ length out.old }
-    ensures { Wrote (reportOf (case_of b.now) (certificate_of q.now) (outcome b.now q.now)) out.old out.new result }
+fn outcome_text(b: &[u8], q: &[u8], text: &mut Text<'_>)
+    requires { HasRoom most_text text.old }
+    ensures { Adds (reportOf (case_of b.now) (certificate_of q.now) (outcome b.now q.now)) text.old text.new }
 {
-    let answer = outcomes::check_certificate(b, q);
-    match answer {
+    match outcomes::check_certificate(b, q) {
         Ok(v) => {
             let n = case_check::counts_at(b);
-            let priced = PricedCase::new(b, q, n.resources, n.zones, n.flowgates);
-            printed_lines::accepted_text(&priced, v, out)
+            let priced = PricedCase::new(b, q, n);
+            printed_lines::accepted_text(&priced, v, text);
         }
-        Err(why) => printed_lines::refusal_line(why, out),
+        Err(why) => printed_lines::refusal_line(why, text),
     }
 }
 
@@ -53,22 +51,30 @@ fn case_end(input: &[u8]) -> usize
         return all;
     }
     let after = wire::u32_at(input, 0) as usize;
-    if 4 + after < all {
-        return 4 + after;
-    }
-    all
+    all.min(4 + after)
 }
 
-// What the program prints for its input: a case, then a certificate. Into a buffer below `MOST_TEXT` bytes nothing is written.
+// Of any input: a case, then a certificate.
+fn input_text(input: &[u8], text: &mut Text<'_>)
+    requires { HasRoom most_text text.old }
+    ensures { Adds (printed input.now) text.old text.new }
+{
+    if input.len() > MOST_INPUT {
+        return printed_lines::refusal_line(Refusal::InputLength, text);
+    }
+    let at = case_end(input);
+    outcome_text(&input[..at], &input[at..], text);
+}
+
+// What the program prints for its input, at the front of a lent buffer; how many bytes that is. What stands beyond them stays as
+// it was. Into a buffer below `MOST_TEXT` bytes nothing is written.
 pub fn report(input: &[u8], out: &mut [u8]) -> usize
     ensures { (result ≡ report_count input.now (length out.old)) × (out.new ≡ report_buffer input.now out.old) }
 {
     if out.len() < MOST_TEXT {
         return 0;
     }
-    if input.len() > MOST_INPUT {
-        return printed_lines::refusal_line(Refusal::InputLength, out);
-    }
-    let at = case_end(input);
-    outcome_text(&input[..at], &input[at..], out)
+    let mut text = Text::new(out);
+    input_text(input, &mut text);
+    text.length
 }

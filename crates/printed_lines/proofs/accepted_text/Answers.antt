@@ -1,14 +1,19 @@
-use native.Mathlib.Omega.{arith}
-use borrow.Author.Rules.{rules}
-use Rattle.decimals.proofs.Front.{wrote_on}
+use Rattle.std.proofs.Common.{arith}
+use Rattle.decimals.proofs.Front.{adds_on, room_left}
 use Rattle.prices.specs.PricedCase.{the_case}
 use Rattle.certificate_records.specs.Reader.{certificate_in}
 use Rattle.printed_lines.proofs.Lines.{head_most, accepted_lines}
 use Rattle.printed_lines.specs.Lines.{head_lines, schedule_lines}
+use Rattle.printed_lines.specs.Room.{most_head, most_schedule}
 use Rattle.printed_lines.proofs.accepted_text.Goals as goal
 
-pub schedule_lines-count-requires : goal.schedule_lines-count-requires
-schedule_lines-count-requires c = let m = head_most c.args.v in search rules
+pub schedule_lines-requires : goal.schedule_lines-requires
+schedule_lines-requires c = let v = c.args.v in room_left (head_lines v) c.args.text.now c.head_lines.new.text most_head most_schedule c.requires (head_most v) c.head_lines.ensures
 
 pub returns : goal.returns
-returns c = let w = c.head_lines-at in let x = c.schedule_lines-count in let cs = the_case c.args.priced.now in let k = certificate_in c.args.priced.now.certificate in let v = c.args.v in let m = head_most v in rw (← (accepted_lines cs k v)) (wrote_on (head_lines v) (schedule_lines cs k) c.args.out.now (omega (arith, m)) w.ensures x.ensures)
+returns c =
+    let p = c.args.priced.now in
+    let cs = the_case p in
+    let k = certificate_in p.certificate in
+    let v = c.args.v in
+    rw (← (accepted_lines cs k v)) (adds_on (head_lines v) (schedule_lines cs k) c.args.text.now c.head_lines.new.text c.schedule_lines.new.text (omega (arith, head_most v)) c.head_lines.ensures c.schedule_lines.ensures)

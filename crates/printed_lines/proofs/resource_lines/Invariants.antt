@@ -1,12 +1,9 @@
-use Rattle.std.proofs.Common.{◌≤◌, ◌*◌}
 use Rattle.arith.specs.Sums.{upto, across}
 use Rattle.market.specs.Program.{resource_line}
-use Rattle.decimals.specs.Written.{Wrote}
-use Rattle.printed_lines.specs.Room.{most_resource_line}
+use Rattle.decimals.specs.Written.{Adds}
 use Rattle.prices.specs.PricedCase.{the_case}
 use Rattle.certificate_records.specs.Reader.{certificate_in}
 use Rattle.printed_lines.proofs.resource_lines.Given as goal
 
 abbrev pub invariant-loop-i : goal.invariant-loop-i
-invariant-loop-i l =
-    record { room : l.at ≤ most_resource_line * l.i; written : Wrote (across (resource_line (the_case l.priced) (certificate_in l.priced.certificate)) (upto l.i)) l.initial.out l.out l.at }
+invariant-loop-i l = Adds (across (resource_line (the_case l.priced) (certificate_in l.priced.certificate)) (upto l.i)) l.initial.text l.text

@@ -15,4 +15,4 @@ returns c =
     let s : Kept a.on_line_short_term.0 = search (rules, to_z-of_z) in
     let o : Kept a.off_line_short_term.0 = search (rules, to_z-of_z) in
     let l : Kept c.args.price.0 = search (rules, to_z-of_z) in
-    rw (← (resource_text_is c.args.i c.args.availability a c.args.price n (t ∙ c.printed-on_line.ensures) e g k s o l)) c.write_numbered.ensures
+    rw (← (resource_text_is c.args.i c.args.availability a c.args.price n (t ∙ c.printed-on_line.ensures) e g k s o l)) c.line.ensures

@@ -1,23 +1,24 @@
-use Rattle.std.proofs.Common.{arith, rules}
-use Rattle.arith.specs.Sums.{upto, across}
-use Rattle.arith.proofs.Lists.{across-upto}
+use Rattle.std.proofs.Common.{arith}
 use Rattle.market.specs.Program.{zone_line}
-use Rattle.decimals.proofs.Front.{wrote_on}
-use Rattle.printed_lines.proofs.Lines.{zone_most}
 use Rattle.prices.specs.PricedCase.{the_case}
 use Rattle.certificate_records.specs.Reader.{certificate_in}
+use Rattle.printed_lines.specs.Room.{most_zone_line}
+use Rattle.printed_lines.proofs.Lines.{zone_most, next_room, next_line, no_line}
 use Rattle.printed_lines.proofs.zone_lines.Goals as goal
 
 pub loop-zone-init : goal.loop-zone-init
-unfolding upto across
-loop-zone-init c = search rules
+loop-zone-init c =
+    let p = c.args.priced.now in
+    no_line (zone_line (certificate_in p.certificate)) most_zone_line (zone_most (the_case p) (certificate_in p.certificate)) c.args.text.now
+
+pub zone_line-requires : goal.zone_line-requires
+zone_line-requires c =
+    let p = c.args.priced.now in
+    let l = c.loop-zone in
+    (omega arith, next_room (zone_line (certificate_in p.certificate)) most_zone_line (zone_most (the_case p) (certificate_in p.certificate)) c.args.text.now l.text l.zone p.case.zones (omega arith) c.requires l.invariant)
 
 pub loop-zone-preserved : goal.loop-zone-preserved
 loop-zone-preserved c =
+    let p = c.args.priced.now in
     let l = c.loop-zone in
-    let w = c.zone_line-count in
-    let line = zone_line (certificate_in c.args.priced.now.certificate) in
-    record {
-      room = omega (arith, w.ensures.0, zone_most (the_case c.args.priced.now) (certificate_in c.args.priced.now.certificate) l.zone);
-      written = rw (across-upto line l.zone) (wrote_on (across line (upto l.zone)) (line l.zone) c.args.out.now (omega (arith, l.invariant.written.0)) l.invariant.written w.ensures);
-    }
+    next_line (zone_line (certificate_in p.certificate)) most_zone_line (zone_most (the_case p) (certificate_in p.certificate)) c.args.text.now l.text c.zone_line.new.text l.zone p.case.zones (omega arith) c.requires l.invariant c.zone_line.ensures

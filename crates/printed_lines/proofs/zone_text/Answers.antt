@@ -12,4 +12,4 @@ returns c =
     let s : Kept p.spinning.0 = search (rules, to_z-of_z) in
     let m : Kept p.supplemental.0 = search (rules, to_z-of_z) in
     let h : Kept p.short_term.0 = search (rules, to_z-of_z) in
-    rw (← (zone_text_is c.args.zone p n g s m h)) c.write_line.ensures
+    rw (← (zone_text_is c.args.zone p n g s m h)) c.line.ensures
