@@ -68,7 +68,7 @@ pub fn write_capabilities(case: &SizedCase<'_>, out: &mut [Capability])
     requires { Valid case.now.bytes.now × (case.now.resources ≤ length out.old) }
     ensures { Kept (case_in case.now) case.now.resources out.new }
 {
-    let terms = TermsInRange::new(case.terms());
+    let terms = limits::terms_in_range(case.terms());
     for i in 0..case.resources {
         let resource = ResourceInRange {
             resource: case.resource(i),

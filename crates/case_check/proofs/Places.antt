@@ -1,7 +1,7 @@
 -- Grounds 6 and 7 as the code goes through them, and 5 to 7 together.
 use Rattle.std.proofs.Common.{◌≡◌, ℕ, ◌<◌, true, ◌&&◌, List}
 use Rattle.arith.specs.Sums.{upto, all}
-use Rattle.market.specs.Bytes.{u32_at, within}
+use Rattle.market.specs.Bytes.{within}
 use Rattle.market.specs.Case.{reserves, curves}
 use Rattle.market.specs.CaseFile.{case_of}
 use Rattle.market.specs.CaseCheck.{reserve_in_range, flowgate_in_range, steps_rule, limits_ordered}
@@ -11,7 +11,8 @@ use Rattle.case_ranges.proofs.Places.{fields_in_turn}
 use Rattle.case_soundness.specs.Sound.{SoundResource}
 use Rattle.arith.proofs.Ranges.{all_below}
 use Rattle.case_check.specs.Pieces.{curve_right, offer_right, limits_right}
-use Rattle.case_check.specs.Stages.{SoundCase}
+use Rattle.case_check.specs.Stages.{head_right, SoundCase}
+use Rattle.case_soundness.proofs.Tests.{both}
 
 module _ {b : List ℕ} {r z f : ℕ} (h : CaseBytes b r z f) where
   pub steps_in_turn : steps_rule (case_of b) ≡ (all (curve_right (case_of b)) curves && all (offer_right (case_of b)) (upto r))
@@ -26,11 +27,16 @@ module _ {b : List ℕ} {r z f : ℕ} (h : CaseBytes b r z f) where
   unfolding case_of
   numbered_in_range sound = all_below (resource_numbered_in_range (case_of b)) r (λ i l. rw h.zones at (sound i l).in_range)
 
-  -- 5 to 7, from the figures of the market, the zones, the resources and the flowgates
-  pub case_sound : within 0 128000000 (u32_at b 8) ≡ true → all (reserve_in_range (case_of b)) reserves ≡ true → all (curve_in_range (case_of b)) curves ≡ true → all (curve_right (case_of b)) curves ≡ true → all (zone_in_range (case_of b)) (upto z) ≡ true → ((i : ℕ) → i < r → SoundResource z ((case_of b).resource i)) → all (flowgate_in_range (case_of b)) (upto f) ≡ true → SoundCase (case_of b)
-  case_sound demand reserved curved stepped zoned sound limited =
+  -- 5 to 7, from the head, the zones, the resources and the flowgates
+  pub case_sound : {head : List ℕ} → head ≡ b → head_right (case_of head) ≡ true → all (zone_in_range (case_of b)) (upto z) ≡ true → ((i : ℕ) → i < r → SoundResource z ((case_of b).resource i)) → all (flowgate_in_range (case_of b)) (upto f) ≡ true → SoundCase (case_of b)
+  unfolding case_of
+  case_sound e headed zoned sound limited =
+      let c = case_of b in
+      let h1 = both (within 0 128000000 c.demand && all (reserve_in_range c) reserves && all (curve_in_range c) curves) (all (curve_right c) curves) (rw e at headed) in
+      let h2 = both (within 0 128000000 c.demand && all (reserve_in_range c) reserves) (all (curve_in_range c) curves) h1.0 in
+      let h3 = both (within 0 128000000 c.demand) (all (reserve_in_range c) reserves) h2.0 in
       record {
-        in_range = rw (fields_in_turn h, demand, reserved, curved, zoned, numbered_in_range sound) limited;
-        steps_right = rw (steps_in_turn, stepped) (all_below (offer_right (case_of b)) r (λ i l. (sound i l).steps_right));
+        in_range = rw (fields_in_turn h, h3.0, h3.1, h2.1, zoned, numbered_in_range sound) limited;
+        steps_right = rw (steps_in_turn, h1.1) (all_below (offer_right (case_of b)) r (λ i l. (sound i l).steps_right));
         ordered = rw limits_in_turn (all_below (limits_right (case_of b)) r (λ i l. (sound i l).ordered));
       }

@@ -15,7 +15,7 @@ ghost use Rattle.market.specs.Outcome.{case_grounds, case_answer};
 ghost use Rattle.wire.specs.Within.{Within};
 ghost use Rattle.wire.specs.CaseParts.{head_of, figures_of};
 ghost use Rattle.case_reader.specs.Reader.{case_in};
-ghost use Rattle.case_check.specs.Stages.{shape_grounds, CaseBytesOf, SoundCase};
+ghost use Rattle.case_check.specs.Stages.{shape_grounds, CaseBytesOf, head_right, SoundCase};
 ghost use Rattle.case_check.specs.Pieces.{offer_starts, offer_follows, offer_right, curve_follows, curve_right};
 
 use case_reader::SizedCase;
@@ -65,11 +65,10 @@ fn offer_step_follows(resource: &ResourceBytes<'_>, j: usize) -> bool
     follows(step, next, not_above(step.price, next.price))
 }
 
-// Every step is looked at, also after one that fails: nine tests in a row cost less than nine ways out.
 fn offer_follows(resource: &ResourceBytes<'_>) -> bool
     ensures { result ≡ all (offer_follows (figures_of resource.now)) (upto 9) }
 {
-    (0..9).fold(true, |right, j| right & offer_step_follows(resource, j))
+    (0..9).all(|j| offer_step_follows(resource, j))
 }
 
 fn offer_width(resource: &ResourceBytes<'_>) -> u64
@@ -105,7 +104,6 @@ fn curve_step_follows(head: &CaseHead<'_>, curve: Curve, j: usize) -> bool
     follows(step, next, next.price <= step.price)
 }
 
-// It ends at the first step that fails, as `offer_follows` does not.
 fn curve_follows(head: &CaseHead<'_>, curve: Curve) -> bool
     ensures { result ≡ all (curve_follows (head_of head.now) curve) (upto 3) }
 {
@@ -241,31 +239,25 @@ fn grounds_stage(case: &SizedCase<'_>, n: Counts) -> Result<Counts, Refusal>
     Ok(n)
 }
 
-// 5 to 7 at once. True says that all pass; false says nothing: `grounds_stage` then finds the ground. With `&&` in place of the ways
-// out it is no plainer: its proof then takes each branch by itself, since a test that is true is all that says something.
+// 5 and 6 of the head.
+#[tactic(auto, unfolding(market::specs::CaseFile::case_of))]
+fn head_right(head: &CaseHead<'_>) -> bool
+    ensures { result ≡ head_right (head_of head.now) }
+{
+    case_ranges::at_most(head.bytes, 8, 128000000)
+        && case_ranges::reserves_in_range(head)
+        && case_ranges::curves_in_range(head)
+        && curves_right(head)
+}
+
+// 5 to 7 at once. True says that all pass; false says nothing: `grounds_stage` then finds the ground.
 fn sound(case: &SizedCase<'_>) -> bool
     ensures { result ≡ true → SoundCase (case_in case.now) }
 {
-    let head = case.head();
-    if !case_ranges::at_most(case.bytes, 8, 128000000) {
-        return false;
-    }
-    if !case_ranges::reserves_in_range(&head) {
-        return false;
-    }
-    if !case_ranges::curves_in_range(&head) {
-        return false;
-    }
-    if !curves_right(&head) {
-        return false;
-    }
-    if !case_ranges::zones_in_range(case.bytes, case.zones) {
-        return false;
-    }
-    if !case_soundness::resources_sound(case.bytes, case.resources, case.zones) {
-        return false;
-    }
-    case_ranges::flowgates_in_range(case)
+    head_right(&case.head())
+        && case_ranges::zones_in_range(case.bytes, case.zones)
+        && case_soundness::resources_sound(case.bytes, case.resources, case.zones)
+        && case_ranges::flowgates_in_range(case)
 }
 
 // 1 to 7: the counts of a valid case, or the first ground that holds.

@@ -1,13 +1,13 @@
 // Ground 5 of the case check: every field of a case file within its range (01, 'The case file').
-// Each function tests some fields; all but one end at the first that is out of range. They take what holds these fields: a resource's
-// bytes, the head, a case past refusals 1 to 4, or bytes of which they ask that the fields lie within.
+// Each function tests some fields; all but one end at the first that is out of range. They take what holds these fields: the bytes of a
+// resource or a flowgate, the head, a case past refusals 1 to 4, or bytes of which they ask that the fields lie within.
 #![tactic(auto)]
 
 ghost use Rattle.std.specs.Prelude.{◌≡◌, ◌+◌, ◌*◌, ◌<◌, ◌≤◌};
 ghost use Rattle.arith.specs.Sums.{upto, all};
 ghost use Rattle.market.specs.Bytes.{u8_at, u32_at, i32_at, within, either_way};
 ghost use Rattle.market.specs.Case.{reserves, curves, curve_steps, energy_steps};
-ghost use Rattle.market.specs.CaseFile.{head_size, zone_size, resource_size, flowgate_size, flowgate_head_size, factor_size, case_of};
+ghost use Rattle.market.specs.CaseFile.{head_size, zone_size, resource_size, case_of};
 ghost use Rattle.market.specs.CaseCheck.{powers, resource_in_range, reserve_in_range, flowgate_in_range, fields_in_range};
 ghost use Rattle.wire.specs.Within.{Within};
 ghost use Rattle.wire.specs.CaseParts.{head_of, figures_of};
@@ -15,11 +15,8 @@ ghost use Rattle.case_reader.specs.Reader.{case_in};
 ghost use Rattle.case_ranges.specs.Pieces.{number_at_most, state_in_range, offer_step_in_range, curve_step_in_range, curve_in_range, zone_in_range, resource_numbered_in_range, factor_in_range, flowgate_in_range_at};
 
 use case_reader::SizedCase;
-use market::{
-    CURVE_STEPS, Curve, ENERGY_STEPS, FACTOR_SIZE, FLOWGATE_HEAD_SIZE, HEAD_SIZE, Reserve, Status,
-    ZONE_SIZE,
-};
-use wire::{CaseHead, ResourceBytes};
+use market::{CURVE_STEPS, Curve, ENERGY_STEPS, HEAD_SIZE, Reserve, Status, ZONE_SIZE};
+use wire::{CaseHead, FlowgateBytes, ResourceBytes};
 
 fn either_way(v: i64, most: u32) -> bool
     ensures { result ≡ either_way most v }
@@ -119,17 +116,15 @@ fn resources_in_range(case: &SizedCase<'_>) -> bool
 
 // ---- market-wide figures
 // Multiplier, minutes, largest share and market requirement of a reserve.
-#[tactic(auto, using(case_records::proofs::HeadPlaces::pair_in_head, case_records::proofs::HeadPlaces::order_of_three), unfolding(market::specs::CaseCheck::reserve_in_range, market::specs::CaseFile::case_of))]
+#[tactic(auto, unfolding(market::specs::CaseCheck::reserve_in_range))]
 fn reserve_in_range(head: &CaseHead<'_>, reserve: Reserve) -> bool
     ensures { result ≡ reserve_in_range (head_of head.now) reserve }
 {
-    let b = head.bytes;
-    let pair = reserve.pair_place();
-    let n = reserve.share_order();
-    (1..=5000).contains(&wire::u16_at(b, pair))
-        && (1..=60).contains(&wire::u16_at(b, pair + 2))
-        && (0..=1000).contains(&wire::u16_at(b, 24 + n * 2))
-        && at_most(b, 30 + n * 4, 8000000)
+    let terms = head.terms(reserve);
+    (1..=5000).contains(&terms.multiplier)
+        && (1..=60).contains(&terms.minutes)
+        && (0..=1000).contains(&terms.share)
+        && terms.requirement <= 8000000
 }
 
 #[tactic(auto, unfolding(arith::specs::Sums::all))]
@@ -173,42 +168,37 @@ pub fn zones_in_range(b: &[u8], zones: usize) -> bool
     (0..zones).all(|z| all_at_most(b, HEAD_SIZE + z * ZONE_SIZE, 4, 2000000))
 }
 
-fn factor_in_range(b: &[u8], at: usize, i: usize) -> bool
-    requires { Within b.now (at + flowgate_head_size + i * factor_size) factor_size }
-    ensures { result ≡ factor_in_range b.now at i }
+fn factor_in_range(flowgate: &FlowgateBytes<'_>, i: usize) -> bool
+    requires { i < flowgate.now.resources }
+    ensures { result ≡ factor_in_range flowgate.now.bytes.now flowgate.now.at i }
 {
-    either_way(
-        wire::i16_at(b, at + FLOWGATE_HEAD_SIZE + i * FACTOR_SIZE),
-        1000,
-    )
+    either_way(flowgate.factor(i), 1000)
 }
 
 // Every one is looked at, also after one that is out of range: with no way out of the loop the compiler tests several at once.
-fn factors_in_range(b: &[u8], at: usize, resources: usize) -> bool
-    requires { Within b.now at (flowgate_size resources) }
-    ensures { result ≡ all (factor_in_range b.now at) (upto resources) }
+fn factors_in_range(flowgate: &FlowgateBytes<'_>) -> bool
+    ensures { result ≡ all (factor_in_range flowgate.now.bytes.now flowgate.now.at) (upto flowgate.now.resources) }
 {
-    (0..resources).fold(true, |right, i| right & factor_in_range(b, at, i))
+    (0..flowgate.resources).fold(true, |right, i| right & factor_in_range(flowgate, i))
 }
 
-fn flowgate_in_range(b: &[u8], at: usize, resources: usize) -> bool
-    requires { Within b.now at (flowgate_size resources) }
-    ensures { result ≡ flowgate_in_range_at b.now at resources }
+fn flowgate_in_range(flowgate: &FlowgateBytes<'_>) -> bool
+    ensures { result ≡ flowgate_in_range_at flowgate.now.bytes.now flowgate.now.at flowgate.now.resources }
 {
-    word_either_way(b, at, 20000000) && factors_in_range(b, at, resources)
+    either_way(flowgate.limit(), 20000000) && factors_in_range(flowgate)
+}
+
+fn flowgate_numbered_in_range(case: &SizedCase<'_>, f: usize) -> bool
+    requires { f < case.now.flowgates }
+    ensures { result ≡ flowgate_in_range (case_in case.now) f }
+{
+    flowgate_in_range(&case.flowgate_bytes(f))
 }
 
 pub fn flowgates_in_range(case: &SizedCase<'_>) -> bool
     ensures { result ≡ all (flowgate_in_range (case_in case.now)) (upto case.now.flowgates) }
 {
-    let b = case.bytes;
-    let resources = case.resources;
-    let zones = case.zones;
-    (0..case.flowgates).all(|f| flowgate_in_range(
-        b,
-        market::flowgate_place(resources, zones, f),
-        resources,
-    ))
+    (0..case.flowgates).all(|f| flowgate_numbered_in_range(case, f))
 }
 
 // ---- the whole file

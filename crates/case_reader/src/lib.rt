@@ -1,17 +1,17 @@
 // The one reader that records are read out of a case through: the lent bytes of the case, with its three counts.
-// Each method asks nothing but an index in range. All but `head` call the function of `case_records` that does the work. The counts are
+// Each method asks nothing but an index in range. All but `head` and `flowgate_bytes` call the function of `case_records` that does the work. The counts are
 // fields of their own, and not one `Counts`, since most contracts name one of them.
 #![tactic(auto)]
 
 ghost use Rattle.std.specs.Prelude.{◌≡◌, ◌<◌};
-ghost use Rattle.market.specs.CaseFile.{resource_place};
+ghost use Rattle.market.specs.CaseFile.{resource_place, flowgate_place};
 ghost use Rattle.market.specs.Records.{kw, shift_factor, power, record_of, offer_steps_of, terms_of, curve_steps_of, zone_requirements_of};
 ghost use Rattle.case_records.specs.Places.{CaseBytes};
 
 use market::{
     Counts, Curve, CurveAmounts, CurveSteps, Kw, OfferSteps, Resource, ShiftFactor, Terms,
 };
-use wire::{CaseHead, ResourceBytes};
+use wire::{CaseHead, FlowgateBytes, ResourceBytes};
 
 #[derive(Clone, Copy)]
 pub struct SizedCase<'a> {
@@ -102,6 +102,17 @@ impl<'a> SizedCase<'a> {
     }
 
     // ---- flowgates, counted from 0
+
+    // Where flowgate f stands, for what reads single figures of it.
+    pub fn flowgate_bytes(&self, f: usize) -> FlowgateBytes<'a>
+        requires { f < self.now.flowgates }
+        ensures bytes { result.bytes ≡ self.now.bytes }
+        ensures at { result.at ≡ flowgate_place self.now.resources self.now.zones f }
+        ensures resources { result.resources ≡ self.now.resources }
+    {
+        let at = market::flowgate_place(self.resources, self.zones, f);
+        FlowgateBytes::new(self.bytes, at, self.resources)
+    }
 
     pub fn flowgate_limit(&self, f: usize) -> Kw
         requires { f < self.now.flowgates }

@@ -1,3 +1,2 @@
-pub mod HeadPlaces
 pub mod Places
 pub mod Ranged

@@ -14,7 +14,7 @@ use Rattle.market.specs.declared.Kw.{Kw}
 use Rattle.market.specs.declared.Step.{Step}
 
 -- Not negative, and at most so much. A clause and no type says it: the contracts that ask it have five different maxima, and a
--- figure would change its type on its way from one to the next (what `limits::ramped` gives is what `limits::portion` takes).
+-- figure would change its type from one to the next (`limits::ramped` takes up to 400,000 and gives up to 24,000,000).
 pub record UpTo (v : ℤ) (most : ℕ) : Type 0 where
   pub natural : v ≡ pos (nat_abs v)
   pub at_most : nat_abs v ≤ most

@@ -162,18 +162,16 @@ pub fn demand(head: &CaseHead<'_>) -> Kw
 }
 
 // Of one reserve.
-#[tactic(auto, using(crate::proofs::HeadPlaces::pair_in_head, crate::proofs::HeadPlaces::order_of_three), unfolding(market::specs::Records::reserve_terms_of, market::specs::CaseFile::case_of))]
+#[tactic(auto, unfolding(market::specs::Records::reserve_terms_of))]
 fn terms_of(head: &CaseHead<'_>, reserve: Reserve) -> ReserveTerms
     ensures { result ≡ reserve_terms_of (head_of head.now) reserve }
 {
-    let b = head.bytes;
-    let pair = reserve.pair_place();
-    let n = reserve.share_order();
+    let terms = head.terms(reserve);
     ReserveTerms {
-        multiplier: Thousandths(wire::u16_at(b, pair)),
-        minutes: Minutes(wire::u16_at(b, pair + 2)),
-        share: Thousandths(wire::u16_at(b, 24 + n * 2)),
-        requirement: wire::figure_at(b, 30 + n * 4),
+        multiplier: Thousandths(terms.multiplier),
+        minutes: Minutes(terms.minutes),
+        share: Thousandths(terms.share),
+        requirement: Kw(i64::from(terms.requirement)),
     }
 }
 

@@ -6,7 +6,8 @@ use Rattle.market.specs.declared.Reserve.TheVariants.{Regulating as regulating_r
 use Rattle.market.specs.CaseFile.{case_of}
 use Rattle.market.specs.Outcome.{Valid}
 use Rattle.market.specs.Records.{terms_of}
-use Rattle.market.specs.declared.Terms.{Terms}
+use Rattle.market.specs.declared.PerReserve.{PerReserve}
+use Rattle.market.specs.declared.ReserveTerms.{ReserveTerms}
 use Rattle.case_records.proofs.Ranged.{valid_terms}
 use Rattle.limits.specs.Together.{TermsRanged}
 
@@ -14,5 +15,5 @@ terms_of_ranged : (b : List ℕ) → Valid b → TermsRanged (terms_of (case_of 
 unfolding terms_of
 terms_of_ranged b v = record { regulating = valid_terms b v regulating_reserve; contingency = valid_terms b v contingency_reserve; short_term = valid_terms b v short_term_reserve }
 
-pub terms_ranged : (b : List ℕ) {t : Terms} → Valid b → t ≡ terms_of (case_of b) → TermsRanged t
+pub terms_ranged : (b : List ℕ) {t : PerReserve ReserveTerms} → Valid b → t ≡ terms_of (case_of b) → TermsRanged t
 terms_ranged b v e = rw e (terms_of_ranged b v)

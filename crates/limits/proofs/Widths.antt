@@ -4,7 +4,8 @@ use mathlib.Core.Path.{◌≡◌, refl, ap, ◌∙◌}
 use Prim.Native.Nat.{ℕ, zero, suc, ◌+◌, ◌*◌, ◌<◌, ◌≤◌}
 use native.Mathlib.Numerals.{add-one}
 use native.Mathlib.Omega.{arith}
-use lib.IntN.{nat_abs}
+use lib.IntN.{pos, nat_abs, ◌+ℤ◌}
+use Rattle.units.specs.Room.{SumRoom}
 use Rattle.market.specs.Case.{Case, Resource as Figures, width_of, energy_steps, curve_steps}
 use Rattle.market.specs.declared.Curve.{Curve}
 use Rattle.market.specs.Records.{kw, power, offer_step_of, offer_steps_of, curve_step_of, curve_steps_of}
@@ -38,11 +39,12 @@ curve_width_is c k e j h = ap (λ (x : List Step). widths_of (curve_step x) j) e
 
 -- ---- a loop's sum, at step j of n
 module _ (steps : ℕ → Step) {n j : ℕ} (few : n ≤ 10) (known : (i : ℕ) → i < n → UpTo (steps i).width.0 8000000) (turn : j < n) {sum : Kw} (so_far : sum ≡ power (width_of (widths_of steps) j)) where
-  pub width_room : (nat_abs sum.0 ≤ 1000000000) × (nat_abs (steps j).width.0 ≤ 1000000000)
-  width_room = (
-    rw so_far (omega (arith, widths_most (widths_of steps) j 8000000 (λ i l. (known i (omega arith)).at_most))),
-    omega (arith, (known j turn).at_most),
-  )
+  pub width_room : SumRoom sum.0 (steps j).width.0
+  width_room = rw so_far (omega (arith, widths_most (widths_of steps) j 8000000 (λ i l. (known i (omega arith)).at_most), (known j turn).at_most))
 
-  pub one_width_more : {next : Kw} → ((m k : ℕ) → sum ≡ power m → (steps j).width ≡ power k → next ≡ power (m + k)) → next ≡ power (width_of (widths_of steps) (j + 1))
-  one_width_more e = e (width_of (widths_of steps) j) (widths_of steps j) so_far (ap kw (known j turn).natural) ∙ ap power (width_more (widths_of steps) j)
+  pub one_width_more : {next : Kw} → next ≡ kw (sum.0 +ℤ (steps j).width.0) → next ≡ power (width_of (widths_of steps) (j + 1))
+  one_width_more e =
+      e
+      ∙ ap (λ (x : Kw). kw (x.0 +ℤ (steps j).width.0)) so_far
+      ∙ ap (λ v. kw (pos (width_of (widths_of steps) j) +ℤ v)) (known j turn).natural
+      ∙ ap power (width_more (widths_of steps) j)

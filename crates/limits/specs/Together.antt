@@ -5,7 +5,8 @@ use Rattle.market.specs.Limits.{max_of, min_of, hi_of, lo_of}
 use Rattle.market.specs.UpperBounds.{bound_when, service_bound, regulation, contingency, on_line_short_term, off_line_short_term}
 use Rattle.market.specs.Records.{power}
 use Rattle.market.specs.declared.Availability.{Availability}
-use Rattle.market.specs.declared.Terms.{Terms}
+use Rattle.market.specs.declared.PerReserve.{PerReserve}
+use Rattle.market.specs.declared.ReserveTerms.{ReserveTerms}
 use Rattle.case_records.specs.Ranged.{RangedTerms}
 use Rattle.limits.specs.declared.ResourceLimits.{ResourceLimits}
 use Rattle.limits.specs.declared.ReserveBounds.{ReserveBounds}
@@ -13,7 +14,7 @@ use Rattle.limits.specs.declared.ReserveBounds.{ReserveBounds}
 unfoldable pub limits_of : Resource → ResourceLimits
 limits_of r = record { max = power (max_of r); min = power (min_of r); high = power (hi_of r); low = power (lo_of r) }
 
-pub record TermsRanged (terms : Terms) : Type 0 where
+pub record TermsRanged (terms : PerReserve ReserveTerms) : Type 0 where
   pub regulating : RangedTerms terms.regulating
   pub contingency : RangedTerms terms.contingency
   pub short_term : RangedTerms terms.short_term

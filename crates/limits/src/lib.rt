@@ -14,23 +14,45 @@ ghost use Rattle.market.specs.Rows.{is_spinning};
 ghost use Rattle.market.specs.UpperBounds.{service_bound, upper_bound, energy, cleared_quantity};
 ghost use Rattle.market.specs.Records.{power, per_minute, state_of, record_of, offer_steps_of, curve_steps_of};
 ghost use Rattle.case_records.specs.Ranged.{UpTo, no_step};
+ghost use Rattle.limits.specs.InRange.{terms_in};
+ghost use Rattle.limits.specs.Together.{TermsRanged};
 ghost use Rattle.limits.specs.Widths.{widths_of};
 ghost use Rattle.limits.specs.ByKind.{conventional_tripped, at_least500, conventional_runs, intermittent_runs, external_runs};
 
 use market::{
-    Availability, Breaker, Flags, Kind, Kw, KwPerMinute, Minutes, Resource, State, Status, Step,
-    Thousandths,
+    Availability, Breaker, Flags, Kind, Kw, KwPerMinute, Minutes, PerReserve, Resource, State,
+    Status, Step, Terms, Thousandths,
 };
 
 mod curve_in_range;
 mod offer_in_range;
+mod reserve_in_range;
 mod resource_in_range;
-mod terms_in_range;
 
 pub use curve_in_range::CurveInRange;
 pub use offer_in_range::OfferInRange;
+pub use reserve_in_range::ReserveInRange;
 pub use resource_in_range::ResourceInRange;
-pub use terms_in_range::{ReserveInRange, TermsInRange};
+
+// What a case says of all three reserves, in the ranges of a valid case.
+pub type TermsInRange = PerReserve<ReserveInRange>;
+
+pub fn terms_in_range(terms: Terms) -> TermsInRange
+    requires { TermsRanged terms }
+    ensures { terms_in result ≡ terms }
+{
+    PerReserve {
+        regulating: ReserveInRange {
+            terms: terms.regulating,
+        },
+        contingency: ReserveInRange {
+            terms: terms.contingency,
+        },
+        short_term: ReserveInRange {
+            terms: terms.short_term,
+        },
+    }
+}
 
 // MAX, MIN, HI and LO.
 #[derive(Clone, Copy, Drop)]
@@ -50,14 +72,7 @@ pub struct ReserveBounds {
     pub off_line_short_term: Kw,
 }
 
-// ---- amounts: only these functions look into a kilowatt figure
-
-fn plus(a: Kw, b: Kw) -> Kw
-    requires { (nat_abs a.0 ≤ 1000000000) × (nat_abs b.0 ≤ 1000000000) }
-    ensures { ((m n : ℕ) → a ≡ power m → b ≡ power n → result ≡ power (m + n)) × (nat_abs result.0 ≤ nat_abs a.0 + nat_abs b.0) }
-{
-    Kw(a.0 + b.0)
-}
+// ---- amounts
 
 // What so many minutes make of a ramp.
 fn ramped(rate: KwPerMinute, minutes: Minutes) -> Kw
@@ -76,7 +91,8 @@ fn less(a: Kw, b: Kw) -> Kw
     Kw((a.0 - b.0).max(0))
 }
 
-// The lesser and the larger are two functions: each is one line over the library's `min` or `max`.
+// The lesser and the larger are two functions: each is one line over the library's `min` or `max`, of the numbers as
+// `units::negative_part` says.
 pub fn lesser(a: Kw, b: Kw) -> Kw
     ensures { (m n : ℕ) → a ≡ power m → b ≡ power n → result ≡ power (min m n) }
 {
@@ -206,7 +222,7 @@ fn total_width(steps: &[Step]) -> Kw
 {
     let mut sum = Kw(0);
     for step in steps {
-        sum = plus(sum, step.width);
+        sum = units::sum(sum, step.width);
     }
     sum
 }

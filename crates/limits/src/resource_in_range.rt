@@ -12,8 +12,8 @@ ghost use Rattle.market.specs.Records.{power, record_of, reserve_terms_of, terms
 ghost use Rattle.case_records.specs.Ranged.{Ranged};
 
 use crate::{
-    ReserveBounds, ReserveInRange, ResourceLimits, TermsInRange, larger, less, lesser, plus,
-    portion, ramped,
+    ReserveBounds, ReserveInRange, ResourceLimits, TermsInRange, larger, less, lesser, portion,
+    ramped,
 };
 use market::{Availability, Flags, Kw, Minutes, Resource, State, Status, Thousandths};
 
@@ -116,7 +116,7 @@ impl ResourceInRange {
             return self.resource.limits.economic_max;
         }
         let climb = ramped(self.resource.ramps.up, Minutes(5));
-        plus(self.resource.other_powers.initial, climb)
+        units::sum(self.resource.other_powers.initial, climb)
     }
 
     // What five minutes of ramp leave of the initial energy.

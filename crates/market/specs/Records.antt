@@ -17,7 +17,7 @@ use Rattle.market.specs.declared.Ramps.{Ramps}
 use Rattle.market.specs.declared.OtherPowers.{OtherPowers}
 use Rattle.market.specs.declared.ReserveOffers.{ReserveOffers}
 use Rattle.market.specs.declared.ReserveTerms.{ReserveTerms}
-use Rattle.market.specs.declared.Terms.{Terms}
+use Rattle.market.specs.declared.PerReserve.{PerReserve}
 use Rattle.market.specs.declared.PerService.{PerService}
 use Rattle.market.specs.declared.LimitPrices.{LimitPrices}
 use Rattle.market.specs.declared.PerCurve.{PerCurve}
@@ -123,7 +123,7 @@ unfoldable pub reserve_terms_of : Case → Reserve → ReserveTerms
 reserve_terms_of c reserve =
     record { multiplier = thousandths (c.multiplier reserve); minutes = minutes (c.minutes reserve); share = thousandths (c.share reserve); requirement = power (c.requirement reserve) }
 
-unfoldable pub terms_of : Case → Terms
+unfoldable pub terms_of : Case → PerReserve ReserveTerms
 terms_of c =
     record {
       regulating = reserve_terms_of c regulating_reserve;

@@ -486,11 +486,7 @@ impl Reserve {
     pub fn share_order(self) -> usize
         ensures { result ≡ share_order self }
     {
-        match self {
-            Reserve::Regulating => 0,
-            Reserve::Contingency => 1,
-            Reserve::ShortTerm => 2,
-        }
+        self as usize
     }
 }
 
@@ -576,13 +572,16 @@ pub struct ReserveTerms {
     pub requirement: Kw,
 }
 
-// Of all three reserves.
+// A figure, or more than one, for each of the three reserves.
 #[derive(Clone, Copy, Drop)]
-pub struct Terms {
-    pub regulating: ReserveTerms,
-    pub contingency: ReserveTerms,
-    pub short_term: ReserveTerms,
+pub struct PerReserve<T> {
+    pub regulating: T,
+    pub contingency: T,
+    pub short_term: T,
 }
+
+// What a case says of all three reserves.
+pub type Terms = PerReserve<ReserveTerms>;
 
 // A figure for each service of a resource.
 #[derive(Clone, Copy, Drop)]

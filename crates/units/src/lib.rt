@@ -89,7 +89,8 @@ pub fn in_watts(a: Kw) -> Watts
     Watts(1000 * a.0)
 }
 
-// The lesser of 0 and a figure.
+// The lesser of 0 and a figure, by the numbers: with an order that the unit derives its `min` needs a lemma for each unit, and that of
+// numbers one for all.
 #[tactic(auto, using(crate::proofs::Least::least_is))]
 pub fn negative_part(a: Grains) -> Grains
     requires { Fits64 a.0 }

@@ -1,1 +1,2 @@
+pub mod HeadPlaces
 pub mod WholeCase

@@ -1,12 +1,15 @@
-// Two parts of a case whose bytes are there: its head, and one resource. What is read of them asks nothing more of the bytes.
-ghost use Rattle.std.specs.Prelude.{◌≡◌, ◌+◌, ◌<◌, ◌≤◌, pos};
-ghost use Rattle.market.specs.Bytes.{u8_at, u32_at, i32_at, signed};
+// Three parts of a case whose bytes are there: its head, one resource, one flowgate. What is read of them asks nothing more of the
+// bytes. Each holds the whole slice, and a place where it does not begin with it: a slice of the part alone, or a reference to an
+// array, takes a test when it is cut out.
+ghost use Rattle.std.specs.Prelude.{◌≡◌, ◌+◌, ◌*◌, ◌<◌, ◌≤◌, pos};
+ghost use Rattle.market.specs.Bytes.{u8_at, u32_at, i16_at, i32_at, signed};
 ghost use Rattle.market.specs.Case.{curve_steps, energy_steps};
-ghost use Rattle.market.specs.CaseFile.{head_size, resource_size};
+ghost use Rattle.market.specs.CaseFile.{head_size, resource_size, flowgate_size, flowgate_head_size, factor_size};
 ghost use Rattle.wire.specs.Within.{Within};
 
 use market::{
-    CURVE_PRICES, CURVE_SIZE, CURVE_WIDTHS, Curve, OFFER_PRICES, OFFER_WIDTHS, STEP_SIZE, Unit,
+    CURVE_PRICES, CURVE_SIZE, CURVE_WIDTHS, Curve, FACTOR_SIZE, FLOWGATE_HEAD_SIZE, OFFER_PRICES,
+    OFFER_WIDTHS, Reserve, STEP_SIZE, Unit,
 };
 
 // A step as its file has it: the width, and the price's number of 32 bits.
@@ -14,6 +17,15 @@ use market::{
 pub struct FileStep {
     pub width: u32,
     pub price: u32,
+}
+
+// What a case says of one reserve, as its file has it.
+#[derive(Clone, Copy)]
+pub struct FileTerms {
+    pub multiplier: u32,
+    pub minutes: u32,
+    pub share: u32,
+    pub requirement: u32,
 }
 
 // Length, version, counts, demand, reserve terms and demand curves.
@@ -31,6 +43,23 @@ impl<'a> CaseHead<'a> {
         ensures { result.bytes ≡ bytes.entry }
     {
         CaseHead { bytes }
+    }
+
+    #[tactic(auto, using(crate::proofs::HeadPlaces::pair_in_head, crate::proofs::HeadPlaces::order_of_three), unfolding(market::specs::CaseFile::case_of))]
+    pub fn terms(&self, reserve: Reserve) -> FileTerms
+        ensures multiplier { result.multiplier ≡ (head_of self.now).multiplier reserve }
+        ensures minutes { result.minutes ≡ (head_of self.now).minutes reserve }
+        ensures share { result.share ≡ (head_of self.now).share reserve }
+        ensures requirement { result.requirement ≡ (head_of self.now).requirement reserve }
+    {
+        let pair = reserve.pair_place();
+        let n = reserve.share_order();
+        FileTerms {
+            multiplier: super::u16_at(self.bytes, pair),
+            minutes: super::u16_at(self.bytes, pair + 2),
+            share: super::u16_at(self.bytes, 24 + n * 2),
+            requirement: super::u32_at(self.bytes, 30 + n * 4),
+        }
     }
 
     // Step j of a demand curve.
@@ -115,5 +144,43 @@ impl<'a> ResourceBytes<'a> {
             width: self.u32(OFFER_WIDTHS + j * STEP_SIZE),
             price: self.u32(OFFER_PRICES + j * STEP_SIZE),
         }
+    }
+}
+
+// The flowgate that begins at `at`, of a case that counts so many resources.
+#[derive(Clone, Copy)]
+pub struct FlowgateBytes<'a> {
+    pub bytes: &'a [u8],
+    pub at: usize,
+    pub resources: usize,
+    pub ghost within: { Within bytes.now at (flowgate_size resources) },
+}
+
+impl<'a> FlowgateBytes<'a> {
+    pub fn new(bytes: &'a [u8], at: usize, resources: usize) -> Self
+        requires { Within bytes.now at (flowgate_size resources) }
+        ensures bytes { result.bytes ≡ bytes.entry }
+        ensures at { result.at ≡ at }
+        ensures resources { result.resources ≡ resources }
+    {
+        FlowgateBytes {
+            bytes,
+            at,
+            resources,
+        }
+    }
+
+    pub fn limit(&self) -> i64
+        ensures { result ≡ i32_at self.now.bytes.now self.now.at }
+    {
+        super::i32_at(self.bytes, self.at)
+    }
+
+    // The shift factor of resource i.
+    pub fn factor(&self, i: usize) -> i64
+        requires { i < self.now.resources }
+        ensures { result ≡ i16_at self.now.bytes.now (self.now.at + flowgate_head_size + i * factor_size) }
+    {
+        super::i16_at(self.bytes, self.at + FLOWGATE_HEAD_SIZE + i * FACTOR_SIZE)
     }
 }

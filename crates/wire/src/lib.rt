@@ -12,7 +12,7 @@ use market::{PerCurve, Unit};
 
 mod case_parts;
 
-pub use case_parts::{CaseHead, FileStep, ResourceBytes};
+pub use case_parts::{CaseHead, FileStep, FileTerms, FlowgateBytes, ResourceBytes};
 
 pub fn u8_at(b: &[u8], at: usize) -> u8
     requires { Within b.now at 1 }
@@ -82,6 +82,7 @@ pub fn per_curve_at<U: Unit>(b: &[u8], at: usize) -> PerCurve<U>
 }
 
 // ---- into a slice: the other bytes stay as they are
+// A number for one byte or two is a u32 too: a narrower type would ask more of callers.
 
 pub fn put_u8(out: &mut [u8], at: usize, n: u32)
     requires { Within out.old at 1 × (n < 256) }

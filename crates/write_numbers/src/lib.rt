@@ -89,6 +89,7 @@ fn count_right(count: i64, least: i64, most: usize) -> bool
     (least..=most as i64).contains(&count)
 }
 
+// Of a list's numbers, which are no counts yet: a file's are tested by `case_check::counts_right`.
 #[tactic(auto, unfolding(market::specs::Numbers::counts_in_range))]
 fn counts_in_range(v: &[i64]) -> bool
     requires { 3 ≤ length v.now }

@@ -7,11 +7,11 @@ use Rattle.limits.proofs.Products.{terms_ranged}
 use Rattle.capabilities.proofs.Places.{one_more_kept}
 use Rattle.capabilities.proofs.write_capabilities.Goals as goal
 
-pub new-terms-requires : goal.new-terms-requires
-new-terms-requires c = terms_ranged _ c.requires.0 c.terms.ensures
+pub terms_in_range-terms-requires : goal.terms_in_range-terms-requires
+terms_in_range-terms-requires c = terms_ranged _ c.requires.0 c.terms.ensures
 
 pub invariant_of-resource : goal.invariant_of-resource
 invariant_of-resource c = record { ranged = rw c.resource.ensures (valid_resource _ c.requires.0 c.loop-i.i (omega (arith, resources_is c.args.case.now.whole))) }
 
 pub loop-i-preserved : goal.loop-i-preserved
-loop-i-preserved c = one_more_kept (case_in c.args.case.now) c.loop-i.i c.loop-i.out c.loop-i.invariant (omega arith) c.capability_of.result (c.capability_of.ensures _ _ (c.new-terms.ensures ∙ c.terms.ensures) c.resource.ensures)
+loop-i-preserved c = one_more_kept (case_in c.args.case.now) c.loop-i.i c.loop-i.out c.loop-i.invariant (omega arith) c.capability_of.result (c.capability_of.ensures _ _ (c.terms_in_range-terms.ensures ∙ c.terms.ensures) c.resource.ensures)

@@ -1,6 +1,6 @@
 use Rattle.std.proofs.Common.{refl, rules}
-use Rattle.arith.proofs.Ranges.{all_folded}
+use Rattle.arith.proofs.Ranges.{all_upto}
 use Rattle.case_check.proofs.offer_follows.Goals as goal
 
 pub returns : goal.returns
-returns c = all_folded _ _ refl c.fold.ensures.ran (λ right k b q h. search rules)
+returns c = all_upto _ _ refl c.all.ensures.ran (λ k b q h. search rules)

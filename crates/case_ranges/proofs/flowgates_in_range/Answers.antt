@@ -1,7 +1,6 @@
 use Rattle.std.proofs.Common.{refl, rules}
 use Rattle.arith.proofs.Ranges.{all_upto}
-use Rattle.case_ranges.proofs.Places.{flowgate_here}
 use Rattle.case_ranges.proofs.flowgates_in_range.Goals as goal
 
 pub returns : goal.returns
-returns c = all_upto _ _ refl c.all.ensures.ran (λ k b q h. search (rules, flowgate_here c.args.case.now.whole))
+returns c = all_upto _ _ refl c.all.ensures.ran (λ k b q h. search rules)

@@ -10,8 +10,8 @@ pub loop-step-init : goal.loop-step-init
 unfolding width_of
 loop-step-init c = refl
 
-pub plus-sum-requires : goal.plus-sum-requires
-plus-sum-requires c = width_room (λ j. get_or c.args.steps.now j no_step) c.requires.0 c.requires.1 (omega arith) c.loop-step.invariant
+pub sum-sum-requires : goal.sum-sum-requires
+sum-sum-requires c = width_room (λ j. get_or c.args.steps.now j no_step) c.requires.0 c.requires.1 (omega arith) c.loop-step.invariant
 
 pub loop-step-preserved : goal.loop-step-preserved
-loop-step-preserved c = one_width_more (λ j. get_or c.args.steps.now j no_step) c.requires.0 c.requires.1 (omega arith) c.loop-step.invariant c.plus-sum.ensures.0
+loop-step-preserved c = one_width_more (λ j. get_or c.args.steps.now j no_step) c.requires.0 c.requires.1 (omega arith) c.loop-step.invariant c.sum-sum.ensures
