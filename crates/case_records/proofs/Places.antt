@@ -9,7 +9,7 @@ use Rattle.market.specs.CaseFile.{case_of, head_size, flowgate_size}
 use Rattle.market.specs.Outcome.{Valid}
 use Rattle.wire.specs.Within.{Within}
 use Rattle.wire.proofs.WholeCase.{valid_case}
-use Rattle.case_records.specs.Places.{CaseBytes, ZoneIn, ResourceIn, FlowgateIn, FactorIn}
+use Rattle.case_records.specs.Places.{CaseBytes, ZoneIn, ResourceIn, FlowgateIn}
 
 module _ {b : List ℕ} {r z f : ℕ} (whole : CaseBytes b r z f) where
   pub head_in : Within b 0 head_size
@@ -23,9 +23,6 @@ module _ {b : List ℕ} {r z f : ℕ} (whole : CaseBytes b r z f) where
 
   pub flowgate_in : (g : ℕ) → g < f → FlowgateIn b r z g
   flowgate_in g h = record { resources = whole.resources; zones = whole.zones; within = omega (arith, mul-le-mul_right (flowgate_size r) h) }
-
-  pub factor_in : (g i : ℕ) → g < f → i < r → FactorIn b r z g i
-  factor_in g i h k = record { flowgate = flowgate_in g h; counted = k }
 
   pub resources_is : r ≡ (case_of b).resources
   unfolding case_of

@@ -1,6 +1,6 @@
 -- What a function of this crate asks of the bytes: that those it reads are there, and that the counts it is passed are the file's
 -- (01, 'The case file'). `CaseBytes`, of a whole case, gives each of these (proofs/Places.antt).
-use Rattle.std.specs.Prelude.{◌≡◌, List, ℕ, ◌<◌}
+use Rattle.std.specs.Prelude.{◌≡◌, List, ℕ}
 use Rattle.wire.specs.Within.{Within}
 pub use Rattle.wire.specs.CaseBytes.{CaseBytes}
 use Rattle.market.specs.Bytes.{u8_at}
@@ -18,8 +18,3 @@ pub record FlowgateIn (b : List ℕ) (r z f : ℕ) : Type 0 where
   pub resources : r ≡ u8_at b 5
   pub zones : z ≡ u8_at b 6
   pub within : Within b (flowgate_place r z f) (flowgate_size r)
-
--- its shift factor of resource i
-pub record FactorIn (b : List ℕ) (r z f i : ℕ) : Type 0 where
-  pub flowgate : FlowgateIn b r z f
-  pub counted : i < r

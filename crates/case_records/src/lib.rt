@@ -5,18 +5,17 @@
 ghost use Rattle.std.specs.Prelude.{◌≡◌, ◌<◌};
 ghost use Rattle.wire.specs.CaseParts.{head_of, figures_of};
 ghost use Rattle.market.specs.Case.{curve_steps, energy_steps};
-ghost use Rattle.market.specs.CaseFile.{resource_place, case_of};
-ghost use Rattle.market.specs.Records.{kw, shift_factor, power, offer_step_of, offer_steps_of, state_of, output_limits_of, ramps_of, other_powers_of, reserve_offers_of, record_of, reserve_terms_of, terms_of, curve_step_of, curve_steps_of, zone_requirements_of};
-ghost use Rattle.case_records.specs.Places.{ZoneIn, ResourceIn, FlowgateIn, FactorIn};
+ghost use Rattle.market.specs.CaseFile.{resource_place, flowgate_place, case_of};
+ghost use Rattle.market.specs.Records.{power, offer_step_of, offer_steps_of, state_of, output_limits_of, ramps_of, other_powers_of, reserve_offers_of, record_of, reserve_terms_of, terms_of, curve_step_of, curve_steps_of, zone_requirements_of};
+ghost use Rattle.case_records.specs.Places.{ZoneIn, ResourceIn, FlowgateIn};
 
 use market::{
-    Breaker, CURVE_PRICES, CURVE_SIZE, CURVE_WIDTHS, Curve, CurveAmounts, CurveSteps, FACTOR_SIZE,
-    FLOWGATE_HEAD_SIZE, Flags, HEAD_SIZE, Kind, Kw, Minutes, OFFER_PRICES, OFFER_WIDTHS,
-    OfferSteps, OtherPowers, OutputLimits, RESOURCE_SIZE, Ramps, Reserve, ReserveOffers,
-    ReserveTerms, Resource, STEP_SIZE, ShiftFactor, State, Status, Step, Terms, Thousandths,
+    Breaker, Cents, Curve, CurveAmounts, CurveSteps, FACTOR_SIZE, FLOWGATE_HEAD_SIZE, Flags,
+    HEAD_SIZE, Kind, Kw, Minutes, OfferSteps, OtherPowers, OutputLimits, RESOURCE_SIZE, Ramps,
+    Reserve, ReserveOffers, ReserveTerms, Resource, State, Status, Step, Terms, Thousandths,
     ZONE_SIZE,
 };
-use wire::{CaseHead, ResourceBytes};
+use wire::{CaseHead, FlowgateBytes, ResourceBytes};
 
 // ---- a resource
 
@@ -89,21 +88,22 @@ fn offer_step_of(resource: &ResourceBytes<'_>, j: usize) -> Step
     requires { j < energy_steps }
     ensures { result ≡ offer_step_of (figures_of resource.now) j }
 {
+    let step = resource.step(j);
     Step {
-        width: resource.figure(OFFER_WIDTHS + j * STEP_SIZE),
-        price: resource.signed_figure(OFFER_PRICES + j * STEP_SIZE),
+        width: Kw(i64::from(step.width)),
+        price: Cents(i64::from(step.price.cast_signed())),
     }
 }
 
 #[tactic(auto, unfolding(market::specs::Records::offer_steps_of))]
-fn offer_steps_of(resource: &ResourceBytes<'_>) -> OfferSteps
+pub fn offer_steps_of(resource: &ResourceBytes<'_>) -> OfferSteps
     ensures { result ≡ offer_steps_of (figures_of resource.now) }
 {
     std::array::from_fn(|j| offer_step_of(resource, j))
 }
 
 #[tactic(auto, unfolding(market::specs::Records::record_of))]
-fn record_of(resource: &ResourceBytes<'_>) -> Resource
+pub fn record_of(resource: &ResourceBytes<'_>) -> Resource
     ensures { result ≡ record_of (figures_of resource.now) }
 {
     Resource {
@@ -122,24 +122,6 @@ pub fn resource_bytes(b: &[u8], zones: usize, i: usize) -> ResourceBytes<'_>
     ensures at { result.at ≡ resource_place zones i }
 {
     ResourceBytes::new(b, HEAD_SIZE + zones * ZONE_SIZE + i * RESOURCE_SIZE)
-}
-
-// Resource i of a case of so many zones.
-#[tactic(auto, unfolding(market::specs::CaseFile::case_of))]
-pub fn resource_at(b: &[u8], zones: usize, i: usize) -> Resource
-    requires { ResourceIn b.now zones i }
-    ensures { result ≡ record_of ((case_of b.now).resource i) }
-{
-    record_of(&resource_bytes(b, zones, i))
-}
-
-// The energy steps of resource i.
-#[tactic(auto, unfolding(market::specs::CaseFile::case_of))]
-pub fn offer_steps(b: &[u8], zones: usize, i: usize) -> OfferSteps
-    requires { ResourceIn b.now zones i }
-    ensures { result ≡ offer_steps_of ((case_of b.now).resource i) }
-{
-    offer_steps_of(&resource_bytes(b, zones, i))
 }
 
 // ---- zones, counted from 0
@@ -186,15 +168,15 @@ pub fn terms(head: &CaseHead<'_>) -> Terms
     }
 }
 
-#[tactic(auto, using(market::proofs::CurveNumbers::number_below_4), unfolding(market::specs::Records::curve_step_of, market::specs::CaseFile::case_of))]
+#[tactic(auto, unfolding(market::specs::Records::curve_step_of))]
 fn curve_step_at(head: &CaseHead<'_>, curve: Curve, j: usize) -> Step
     requires { j < curve_steps }
     ensures { result ≡ curve_step_of (head_of head.now) curve j }
 {
-    let at = curve.number() * CURVE_SIZE + j * STEP_SIZE;
+    let step = head.step(curve, j);
     Step {
-        width: wire::figure_at(head.bytes, CURVE_WIDTHS + at),
-        price: wire::figure_at(head.bytes, CURVE_PRICES + at),
+        width: Kw(i64::from(step.width)),
+        price: Cents(i64::from(step.price)),
     }
 }
 
@@ -207,34 +189,17 @@ pub fn curve_at(head: &CaseHead<'_>, curve: Curve) -> CurveSteps
 
 // ---- flowgates
 
-// Flowgate f of a case that counts so many resources and zones. This and the next add up its place themselves: `market::flowgate_place`
-// asks that the counts are in range, and these only that the bytes are there.
-#[tactic(auto, unfolding(market::specs::CaseFile::case_of))]
-pub fn flowgate_limit_at(b: &[u8], resources: usize, zones: usize, f: usize) -> Kw
+// The bytes of flowgate f of a case that counts so many resources and zones. It adds up its place itself, since
+// `market::flowgate_place` asks that the counts are in range, and this only that the bytes are there.
+pub fn flowgate_bytes(b: &[u8], resources: usize, zones: usize, f: usize) -> FlowgateBytes<'_>
     requires { FlowgateIn b.now resources zones f }
-    ensures { result ≡ kw ((case_of b.now).flowgate_limit f) }
+    ensures bytes { result.bytes ≡ b.entry }
+    ensures at { result.at ≡ flowgate_place resources zones f }
+    ensures resources { result.resources ≡ resources }
 {
-    wire::signed_figure_at(
-        b,
-        HEAD_SIZE
-            + zones * ZONE_SIZE
-            + resources * RESOURCE_SIZE
-            + f * (FLOWGATE_HEAD_SIZE + resources * FACTOR_SIZE),
-    )
-}
-
-#[tactic(auto, unfolding(market::specs::CaseFile::case_of))]
-pub fn shift_factor_at(b: &[u8], resources: usize, zones: usize, f: usize, i: usize) -> ShiftFactor
-    requires { FactorIn b.now resources zones f i }
-    ensures { result ≡ shift_factor ((case_of b.now).shift_factor f i) }
-{
-    ShiftFactor(wire::i16_at(
-        b,
-        HEAD_SIZE
-            + zones * ZONE_SIZE
-            + resources * RESOURCE_SIZE
-            + f * (FLOWGATE_HEAD_SIZE + resources * FACTOR_SIZE)
-            + FLOWGATE_HEAD_SIZE
-            + i * FACTOR_SIZE,
-    ))
+    let at = HEAD_SIZE
+        + zones * ZONE_SIZE
+        + resources * RESOURCE_SIZE
+        + f * (FLOWGATE_HEAD_SIZE + resources * FACTOR_SIZE);
+    FlowgateBytes::new(b, at, resources)
 }

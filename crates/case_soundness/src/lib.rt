@@ -10,9 +10,7 @@ ghost use Rattle.case_ranges.specs.Pieces.{ResourcesIn};
 ghost use Rattle.case_soundness.specs.Sound.{SoundPair, SoundPowers, SoundOffer, SoundResource};
 ghost use Rattle.case_soundness.specs.Ranks.{rank_of};
 
-use market::{
-    ENERGY_STEPS, HEAD_SIZE, OFFER_PRICES, OFFER_WIDTHS, RESOURCE_SIZE, STEP_SIZE, ZONE_SIZE,
-};
+use market::{ENERGY_STEPS, HEAD_SIZE, RESOURCE_SIZE, ZONE_SIZE};
 use wire::ResourceBytes;
 
 // Of the pair of limits at a place of the record: the maximum is in range and the minimum not above it, so that it is in range too.
@@ -57,13 +55,12 @@ fn offer_sound(resource: &ResourceBytes<'_>) -> bool
     let mut last: u64 = 0;
     let mut sum: u64 = 0;
     for j in 0..ENERGY_STEPS {
-        let width = resource.u32(OFFER_WIDTHS + j * STEP_SIZE);
-        let price = resource.u32(OFFER_PRICES + j * STEP_SIZE);
-        let moved = price.wrapping_add(400000);
-        let here = rank(width, price, moved);
+        let step = resource.step(j);
+        let moved = step.price.wrapping_add(400000);
+        let here = rank(step.width, step.price, moved);
         right = right & (moved <= 800000) & (last <= here);
         last = here;
-        sum += u64::from(width);
+        sum += u64::from(step.width);
     }
     right & (last <= 800001) & (sum <= 2000000)
 }

@@ -58,6 +58,7 @@ pub fn form(q: &[u8], n: Counts) -> Result<Counts, Refusal>
 }
 
 // ---- 12: every price within its range
+// Zone by zone, as in `case_ranges::zones_in_range`.
 fn zones_priced(q: &[u8], zones: usize) -> bool
     requires { Within q.now certificate_head_size (zones * zone_prices_size) }
     ensures { result ≡ all (zone_priced q.now) (upto zones) }

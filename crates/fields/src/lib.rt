@@ -204,6 +204,7 @@ const CERTIFICATE_HEAD: [Field; CERTIFICATE_HEAD_NUMBERS] = [
     Field::U32,
 ];
 
+// A table for each part, and a function that reads it: an array's length is in its type, and its definition in the clause.
 fn head_field(k: usize) -> Field
     requires { k < head_numbers }
     ensures { field_of result ≡ get_or head_fields k u8 }
@@ -259,7 +260,8 @@ fn certificate_field(k: usize) -> Field
     Field::U32
 }
 
-// A trait with a type for each file says more and no plainer: each promise, two bodies of it, and both files' grounds besides.
+// A trait with a type for each file says more and no plainer: each promise, two bodies of it, and both files' grounds besides. So it is
+// with a field's width, whose methods above match five variants.
 #[derive(Clone, Copy, Drop)]
 pub enum File {
     Case,
@@ -277,8 +279,8 @@ impl File {
         }
     }
 
-    // How many numbers a file has. That the counts are in their ranges stands in `requires`, and not in their type: `Counts` holds
-    // what any three bytes say, before 3 is tested of them.
+    // How many numbers a file has. That the counts are in their ranges stands in `requires`, and in no type: `Counts` holds what any three
+    // bytes say, before 3 is tested of them, and a second type would be opened again by each reader, which has a count in each field.
     #[tactic(auto, using(market::proofs::FileSizes::case_count, market::proofs::FileSizes::certificate_count))]
     pub fn count(self, n: Counts) -> usize
         requires { CountsWithin n.resources n.zones n.flowgates }

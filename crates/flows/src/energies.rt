@@ -1,4 +1,5 @@
-// A case with a certificate that is past 13, with the two parts of each resource's energy.
+// A case with a certificate that is past 13, with the two parts of each resource's energy. The two arrays are those of the caller's own
+// stack: with no heap, what borrows them can be handed to a function and not out of one, so that `rows` and `row_charges` both fill them.
 ghost use Rattle.std.specs.Prelude.{◌≡◌};
 ghost use Rattle.prices.specs.PricedCase.{certificate_bytes};
 ghost use Rattle.flows.specs.Parts.{EnergyParts};

@@ -34,6 +34,7 @@ fn unsigned(e: Kw) -> u64
     e.0 as u64
 }
 
+// A cast, as in `unsigned`.
 fn narrow(part: u64) -> i16
     requires { part ≤ most_part }
     ensures { result ≡ pos part }
@@ -42,7 +43,8 @@ fn narrow(part: u64) -> i16
 }
 
 // The parts of each resource's energy, at its own place of two lent buffers. An array of pairs was proved and measured on 64
-// resources: 467 instructions more a check and 858 more for the charges, past the bars that two arrays meet.
+// resources: 59,170 instructions a check in place of 58,703, when the check's bar, 0.85 of the baseline, was missed by 0.004 with two
+// arrays, and 858 more for the charges, which miss theirs.
 pub fn write_energies(certificate: &SizedCertificate<'_>, high: &mut [i16], low: &mut [i16])
     requires bounded { EnergyBounded certificate.now.bytes.now certificate.now.resources }
     requires r_in_bounds { (certificate.now.resources ≤ length high.old) × (certificate.now.resources ≤ length low.old) }

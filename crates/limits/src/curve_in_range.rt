@@ -1,4 +1,5 @@
-// The steps of a demand curve, in the ranges of a valid case.
+// The steps of a demand curve, in the ranges of a valid case. `OfferInRange` has another number of steps, and another fact of them in its
+// ghost field, which a type parameter does not choose.
 ghost use Rattle.case_records.specs.Ranged.{RangedCurve};
 
 use market::CurveSteps;

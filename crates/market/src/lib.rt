@@ -12,10 +12,12 @@ ghost use Rattle.market.specs.CaseCheck.{CountsWithin};
 ghost use Rattle.market.specs.Certificate.{amounts_place, certificate_size};
 ghost use Rattle.market.specs.Refusals.{number_of, place_of, answer_of, result_of, count_of};
 
-// ---- how many of each kind document 01 has: demand curves and the steps of one, energy steps and services of a resource
+// ---- how many of each kind document 01 has: demand curves and the steps of one, reserves, energy steps and services of a resource
 pub const CURVES: usize = 4;
 
 pub const CURVE_STEPS: usize = 4;
+
+pub const RESERVES: usize = 3;
 
 pub const ENERGY_STEPS: usize = 10;
 
@@ -130,7 +132,7 @@ pub fn certificate_size(n: Counts) -> usize
 
 // ---- units
 // Power, in kW.
-#[derive(Clone, Copy, Drop)]
+#[derive(Clone, Copy, Drop, PartialEq, Eq)]
 pub struct Kw(pub i64);
 
 // Ramps, in kW a minute.
@@ -319,7 +321,7 @@ impl Status {
 
     pub const MOST: Status = Status(15);
 
-    // The status bits of any byte; of a byte in range, all that it has.
+    // The status bits of any byte; of a byte in range, all that it has. It takes bits away and is no conversion.
     pub fn masked(byte: u8) -> Status
         ensures { result.0 ≡ status_bits byte }
     {
@@ -471,6 +473,12 @@ pub enum Reserve {
 }
 
 impl Reserve {
+    pub const ALL: [Reserve; RESERVES] = [
+        Reserve::Regulating,
+        Reserve::Contingency,
+        Reserve::ShortTerm,
+    ];
+
     // Where its multiplier and, two bytes on, its minutes stand in the head of a case.
     pub fn pair_place(self) -> usize
         ensures { result ≡ pair_place self }
@@ -486,7 +494,7 @@ impl Reserve {
     pub fn share_order(self) -> usize
         ensures { result ≡ share_order self }
     {
-        self as usize
+        usize::from(self as u8)
     }
 }
 
@@ -509,7 +517,8 @@ pub type OfferSteps = [Step; ENERGY_STEPS];
 
 pub type CurveSteps = [Step; CURVE_STEPS];
 
-// A resource's record, read by value. `trip` is the time since the last trip, 255 for none.
+// A resource's record, read by value. `trip` is the time since the last trip, 255 for none: no time, but whoever reads it asks only
+// whether it is 15 or less, so that a type with no time in it would be one case more and no plainer.
 #[derive(Clone, Copy, Drop)]
 pub struct State {
     pub kind: Kind,
@@ -644,6 +653,7 @@ pub enum Refusal {
 }
 
 impl Refusal {
+    // The number that C hosts receive. A cast to a number is not to be had: two of the variants hold a place.
     pub fn number(self) -> u32
         ensures { result ≡ number_of self }
     {

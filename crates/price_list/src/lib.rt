@@ -25,7 +25,8 @@ fn write_zone(p: ZonePrices, out: &mut [i64])
     out[..ZONE_PRICES].copy_from_slice(&numbers);
 }
 
-// Each zone's prices, from its own place on.
+// Each zone's prices, from its own place on. The loops of row_charges and charges that write block behind block stay beside this one: one
+// function for all would take a block as a closure, and have to say of each, by its `pre` and `post`, what is said of them in one clause.
 fn write_zones(priced: &PricedCase<'_>, out: &mut [i64])
     requires { zone_price_count * priced.now.case.zones ≤ length out.old }
     ensures { out.new ≡ across (zone_prices (the_prices priced.now)) (upto priced.now.case.zones) ++ drop (zone_price_count * priced.now.case.zones) out.old }

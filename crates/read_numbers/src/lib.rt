@@ -61,7 +61,7 @@ fn hand_over(file: File, b: &[u8], n: Counts, out: &mut [i64]) -> Result<u32, Re
     Ok(count as u32)
 }
 
-// Reads a case into numbers: 1 to 7, then 15.
+// Reads a case into numbers: 1 to 7, then 15. This and the next are two calls of the C interface; what they share is `hand_over`.
 pub fn read_case(b: &[u8], out: &mut [i64]) -> Result<u32, Refusal>
     ensures { (result ≡ read_case b.now (length out.old)) × (out.new ≡ read_case_buffer b.now out.old) × WrittenBack write_case write_case_buffer b.now out.new result }
 {

@@ -70,7 +70,7 @@ fn balanced(bounded: &BoundedCase<'_>) -> bool
 {
     let total = energy_total(&bounded.priced.certificate);
     let demand = bounded.priced.case.demand();
-    units::at_least(total, demand) && units::at_least(demand, total)
+    total == demand
 }
 
 // ---- reserve rows
@@ -93,6 +93,8 @@ fn zone_short(have: &ReserveTotals<'_>, zone: usize) -> Option<u32>
     units::first_short(have.zones[zone], need, first)
 }
 
+// This loop and those over flowgates and resources are `for`, and no `find_map`: what a search has found so far is one law
+// (units, proofs/Search) for the three and for 13's, and `find_map` would need another of what its closure answers.
 fn zones_short(have: &ReserveTotals<'_>) -> Option<u32>
     ensures { found_at RowBroken result ≡ broken_from (case_bytes have.now.bounded.priced) (certificate_bytes have.now.bounded.priced) first_zone_row (zone_rows (the_case have.now.bounded.priced)) }
 {
@@ -183,8 +185,9 @@ fn resources_outside(kept: &KeptCase<'_>) -> Option<u32>
 
 // ---- all rows
 
-// The first broken row of a flowgate or of a resource. `or_else` promises of an empty answer what its closure ensures, so that a
-// closure would have to say again what `resources_outside` says; so it is in `first_broken` and in `quantities::first_above`.
+// The first broken row of a flowgate or of a resource. `or_else` was tried: it promises of an empty answer what its closure ensures, and
+// of a closure with no clause that is nothing, so that this one would have to say again what `resources_outside` says. So it is in
+// `first_broken` and in `quantities::first_above`.
 fn network_broken(kept: &KeptCase<'_>) -> Option<u32>
     ensures { found_at RowBroken result ≡ broken_from (case_bytes kept.now.bounded.priced) (certificate_bytes kept.now.bounded.priced) (first_flowgate_row kept.now.bounded.priced.case.zones) (flowgate_rows (the_case kept.now.bounded.priced) ++ limit_rows (the_case kept.now.bounded.priced)) }
 {

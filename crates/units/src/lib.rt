@@ -27,6 +27,7 @@ pub fn difference<U: Unit>(a: U, b: U) -> U
     U::of(a.number() - b.number())
 }
 
+// By the numbers, in one law for every unit: an order that each unit derives would have to be tied to its number in each.
 pub fn at_least<U: Unit>(a: U, b: U) -> bool
     ensures { result ≡ le_z (U.number b) (U.number a) }
 {
@@ -49,7 +50,8 @@ pub fn sized_difference<U: Unit>(a: U, b: U) -> U
     difference(a, b)
 }
 
-// ---- products, and one unit in another
+// ---- products, and one unit in another: each names its units, since one function over any two would let a price be taken times a
+// price
 
 // A price of thousandths of a cent times an amount.
 pub fn value(a: Millicents, b: Kw) -> Grains

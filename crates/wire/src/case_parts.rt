@@ -1,6 +1,6 @@
 // Three parts of a case whose bytes are there: its head, one resource, one flowgate. What is read of them asks nothing more of the
-// bytes. Each holds the whole slice, and a place where it does not begin with it: a slice of the part alone, or a reference to an
-// array, takes a test when it is cut out.
+// bytes. Each holds the whole slice, and a place where it does not begin with it: the definitions speak of places in a case's bytes, so
+// that of a slice of the part alone each read would need the law that it is the case's number so much further on.
 ghost use Rattle.std.specs.Prelude.{◌≡◌, ◌+◌, ◌*◌, ◌<◌, ◌≤◌, pos};
 ghost use Rattle.market.specs.Bytes.{u8_at, u32_at, i16_at, i32_at, signed};
 ghost use Rattle.market.specs.Case.{curve_steps, energy_steps};
@@ -138,6 +138,7 @@ impl<'a> ResourceBytes<'a> {
         requires { j < energy_steps }
         ensures width { result.width ≡ (figures_of self.now).step_width j }
         ensures price { signed 2147483648 result.price ≡ (figures_of self.now).step_price j }
+        ensures price_number { result.price ≡ u32_at self.now.bytes.now (self.now.at + 78 + j * 8) }
         ensures number { (result.width < 4294967296) × (result.price < 4294967296) }
     {
         FileStep {

@@ -183,7 +183,8 @@ fn hand_over(file: File, v: &[i64], counts: Counts, out: &mut [u8]) -> Result<u3
     Ok(size as u32)
 }
 
-// Writes a case from numbers: 16, 3, 16, 5, 6, 7, then 15.
+// Writes a case from numbers: 16, 3, 16, 5, 6, 7, then 15. This and the next are two calls of the C interface; what they share is
+// `hand_over`.
 pub fn write_case(v: &[i64], out: &mut [u8]) -> Result<u32, Refusal>
     ensures { (result ≡ write_case v.now (length out.old)) × (out.new ≡ write_case_buffer v.now out.old) × ReadBack read_case read_case_buffer v.now out.new result }
 {

@@ -18,8 +18,5 @@ energy_total-total-requires c = rw (same_resources c.args.bounded.now.priced) (e
 total : (c : After-energy_total-total) → let p = c.args.bounded.now.priced in c.energy_total-total.result.0 ≡ sum_of (λ i. kw_of (the_amounts p) i energy) (upto p.case.resources)
 total c = rw (c.energy_total-total.ensures, ap upto (same_resources c.args.bounded.now.priced))
 
-pub returns-then-at_least : goal.returns-then-at_least
-returns-then-at_least c = let p = c.args.bounded.now.priced in let t = total (goal.at.returns-then-at_least c).After-energy_total-total in grind (arith, t, balance_met (the_case p) (certificate_in p.certificate) p.case.resources (resources_is c.args.bounded.now.standing.prices.case_bytes))
-
-pub returns-else-at_least : goal.returns-else-at_least
-returns-else-at_least c = let p = c.args.bounded.now.priced in let t = total (goal.at.returns-else-at_least c).After-energy_total-total in grind (arith, t, balance_met (the_case p) (certificate_in p.certificate) p.case.resources (resources_is c.args.bounded.now.standing.prices.case_bytes))
+pub returns : goal.returns
+returns c = let p = c.args.bounded.now.priced in let t = total (goal.at.returns c).After-energy_total-total in grind (arith, t, balance_met (the_case p) (certificate_in p.certificate) p.case.resources (resources_is c.args.bounded.now.standing.prices.case_bytes))
