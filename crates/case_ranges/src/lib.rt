@@ -21,7 +21,7 @@ use wire::{CaseHead, FlowgateBytes, ResourceBytes};
 fn either_way(v: i64, most: u32) -> bool
     ensures { result ≡ either_way most v }
 {
-    v.unsigned_abs() <= u64::from(most)
+    (-i64::from(most)..=i64::from(most)).contains(&v)
 }
 
 pub fn at_most(b: &[u8], at: usize, most: u32) -> bool
