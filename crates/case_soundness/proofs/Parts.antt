@@ -1,5 +1,5 @@
 -- A resource's parts, and the parts together: what grounds 5, 6 and 7 ask, from the tests that the code makes.
-use Rattle.std.proofs.Common.{◌≡◌, ℕ, ◌+◌, ◌*◌, ◌<◌, ◌≤◌, Bool, true, ◌&&◌, leb, List, sym, ◌∙◌, arith, le-leb, leb-true}
+use Rattle.std.proofs.Common.{◌≡◌, ℕ, ◌+◌, ◌*◌, ◌<◌, ◌≤◌, true, ◌&&◌, leb, List, sym, ◌∙◌, arith, le-leb, leb-true}
 use Rattle.arith.specs.Sums.{upto, all}
 use Rattle.market.specs.Bytes.{u32_at, within}
 use Rattle.market.specs.Case.{Resource, width_of}
@@ -39,16 +39,15 @@ module _ (b : List ℕ) (at : ℕ) where
   prices_at j = u32_at b (at + 78 + j * 8)
 
   -- from what the loop over them has kept, and its last test
-  pub offer_sound : {right : Bool} {last sum j : ℕ} → j ≡ 10 → last ≡ rank_before widths_at prices_at j → sum ≡ width_of widths_at j → (right ≡ true → (k : ℕ) → k < j → Rising widths_at prices_at k) → ((right && leb last 800001) && leb sum 2000000) ≡ true → SoundOffer (resource_at b at)
+  pub offer_sound : {last sum j : ℕ} → j ≡ 10 → last ≡ rank_before widths_at prices_at j → sum ≡ width_of widths_at j → ((k : ℕ) → k < j → Rising widths_at prices_at k) → (leb last 1600001 && leb sum 2000000) ≡ true → SoundOffer (resource_at b at)
   unfolding resource_at energy_steps_right
-  offer_sound {right} {last} {sum} e l s rising t =
-      let narrow = both (right && leb last 800001) (leb sum 2000000) t in
-      let low = both right (leb last 800001) narrow.0 in
-      let risen = rw e at (rising low.0) in
-      let reached : rank_at widths_at prices_at 9 ≤ 800001 = omega (arith, rw e at l, leb-true last 800001 low.1) in
-      let width : width_of widths_at 10 ≤ 2000000 = omega (arith, rw e at s, leb-true sum 2000000 narrow.1) in
+  offer_sound {last} {sum} e l s rising t =
+      let low = both (leb last 1600001) (leb sum 2000000) t in
+      let risen = rw e at rising in
+      let reached : rank_at widths_at prices_at 9 ≤ 1600001 = omega (arith, rw e at l, leb-true last 1600001 low.0) in
+      let width : width_of widths_at 10 ≤ 2000000 = omega (arith, rw e at s, leb-true sum 2000000 low.1) in
       record {
-        in_range = offer_in_range widths_at prices_at 9 risen width;
+        in_range = offer_in_range widths_at prices_at 9 risen reached width;
         steps_right = rw (offer_right_lem widths_at prices_at 9 risen reached) (le-leb (width_of widths_at 10) 2000000 width);
       }
 

@@ -1,6 +1,6 @@
--- Ranks of energy steps: where they never fall, the last is at most that of a step of width 0 and price 0, and each price moved up is in
--- range, the steps keep their rule.
-use Rattle.std.proofs.Common.{◌≡◌, ℕ, zero, suc, ◌+◌, ◌-◌, ◌%◌, ◌<◌, ◌≤◌, Bool, true, ◌&&◌, leb, sym, refl, ◌∙◌, add-one, arith, below_more, lt-ltb, eq-eqb, le-leb, leb-true}
+-- Ranks of energy steps: where they never fall, and the last is at most that of a step of width 0 and price 0, the prices are in range
+-- and the steps keep their rule.
+use Rattle.std.proofs.Common.{◌≡◌, ℕ, zero, suc, ◌+◌, ◌-◌, ◌%◌, ◌<◌, ◌≤◌, true, ◌&&◌, sym, refl, ◌∙◌, add-one, arith, below_more, lt-ltb, eq-eqb, le-leb}
 use native.Mathlib.Decide.{dec_lt}
 use lib.Signed.{le_z}
 use Rattle.arith.specs.Sums.{upto, all}
@@ -11,13 +11,17 @@ use Rattle.market.specs.CaseCheck.{steps_follow, steps_right, never_falls}
 use Rattle.case_ranges.proofs.Halves.{Halved, at_bottom, at_top, zero_signed, shifted_order}
 use Rattle.case_ranges.proofs.Laws.{from_zero}
 use Rattle.case_soundness.specs.Ranks.{moved_of, rank_of}
-use Rattle.case_soundness.proofs.Tests.{both}
 
 -- ---- one step, and one behind another
 -- a price as the file's number of 32 bits, in range
 pub record Priced (n : ℕ) : Type 0 where
   pub number : n < 4294967296
   pub moved : moved_of n ≤ 800000
+
+priced_by_rank : (w : ℕ) {n : ℕ} → n < 4294967296 → rank_of w n (moved_of n) ≤ 1600001 → Priced n
+unfolding rank_of
+priced_by_rank zero number l = record { number = number; moved = omega arith }
+priced_by_rank (suc w) number l = record { number = number; moved = omega arith }
 
 price_in_range : {n : ℕ} → Priced n → either_way 400000 (signed 2147483648 n) ≡ true
 price_in_range {n} h = go (dec_lt 400000 n)
@@ -33,14 +37,14 @@ prices_in_order_lem : {m n : ℕ} → Priced m → Priced n → moved_of m ≤ m
 prices_in_order_lem {m} {n} h k l = sym (shifted_order m n h.number k.number) ∙ le-leb ((m + 2147483648) % 4294967296) ((n + 2147483648) % 4294967296) (omega arith)
 
 -- a step behind another: no width only with no price, and none of some width behind one of none
-follows : (w w' : ℕ) {p p' : ℕ} → Priced p → Priced p' → rank_of w p (moved_of p) ≤ rank_of w' p' (moved_of p') → rank_of w' p' (moved_of p') ≤ 800001 → steps_follow never_falls w (signed 2147483648 p) w' (signed 2147483648 p') ≡ true
+follows : (w w' : ℕ) {p p' : ℕ} → Priced p → Priced p' → rank_of w p (moved_of p) ≤ rank_of w' p' (moved_of p') → rank_of w' p' (moved_of p') ≤ 1600001 → steps_follow never_falls w (signed 2147483648 p) w' (signed 2147483648 p') ≡ true
 unfolding steps_follow rank_of
 follows w zero {p} {p'} h k l m = zero_signed p' 2147483648 k.number ∙ eq-eqb p' 0 (omega arith)
 follows zero (suc w') h k l m = absurd (omega arith)
-follows (suc w) (suc w') h k l m = rw (lt-ltb 0 (suc w) (omega arith)) (prices_in_order_lem h k l)
+follows (suc w) (suc w') h k l m = rw (lt-ltb 0 (suc w) (omega arith)) (prices_in_order_lem h k (omega arith))
 
 -- the first step
-starts : (w : ℕ) {p : ℕ} → Priced p → rank_of w p (moved_of p) ≤ 800001 → steps_follow (λ v v'. true) 1 (signed 2147483648 0) w (signed 2147483648 p) ≡ true
+starts : (w : ℕ) {p : ℕ} → Priced p → rank_of w p (moved_of p) ≤ 1600001 → steps_follow (λ v v'. true) 1 (signed 2147483648 0) w (signed 2147483648 p) ≡ true
 unfolding steps_follow rank_of
 starts zero {p} h m = zero_signed p 2147483648 h.number ∙ eq-eqb p 0 (omega arith)
 starts (suc w) h m = refl
@@ -59,7 +63,7 @@ module _ (w p : ℕ → ℕ) where
   rank_next j = rw (add-one j)
 
   pub record Rising (j : ℕ) : Type 0 where
-    pub priced : Priced (p j)
+    pub number : p j < 4294967296
     pub rises : rank_before j ≤ rank_at j
 
   rank_within : (n : ℕ) → ((k : ℕ) → k < suc n → Rising k) → (j : ℕ) → j < suc n → rank_at j ≤ rank_at n
@@ -71,14 +75,8 @@ module _ (w p : ℕ → ℕ) where
       go below (no k) = let e : j ≡ suc n = omega arith in rw e (omega arith)
 
 -- one step more, by the test of the loop
-pub rising_next : (w p : ℕ → ℕ) (j : ℕ) {right : Bool} {moved last here : ℕ} → (right ≡ true → (k : ℕ) → k < j → Rising w p k) → p j < 4294967296 → moved ≡ moved_of (p j) → last ≡ rank_before w p j → here ≡ rank_at w p j → ((right && leb moved 800000) && leb last here) ≡ true → (k : ℕ) → k < j + 1 → Rising w p k
-rising_next w p j {right} {moved} {last} {here} before number m l h t =
-    let rises = both (right && leb moved 800000) (leb last here) t in
-    let low = both right (leb moved 800000) rises.0 in
-    below_more (Rising w p) j (before low.0) (record {
-      priced = record { number = number; moved = omega (arith, m, leb-true moved 800000 low.1) };
-      rises = omega (arith, l, h, leb-true last here rises.1);
-    })
+pub rising_next : (w p : ℕ → ℕ) (j : ℕ) {last here : ℕ} → ((k : ℕ) → k < j → Rising w p k) → p j < 4294967296 → last ≡ rank_before w p j → here ≡ rank_at w p j → last ≤ here → (k : ℕ) → k < j + 1 → Rising w p k
+rising_next w p j before number l h t = below_more (Rising w p) j before (record { number = number; rises = omega (arith, l, h, t) })
 
 width_part : (w : ℕ → ℕ) (n j : ℕ) → j < n → w j ≤ width_of w n
 unfolding width_of
@@ -89,16 +87,22 @@ width_part w (suc n) j l = go (width_part w n j) (dec_lt j n)
     go below (yes k) = omega (arith, below k)
     go below (no k) = let e : j ≡ n = omega arith in rw e (omega arith)
 
-module _ (w p : ℕ → ℕ) (n : ℕ) (rising : (k : ℕ) → k < suc n → Rising w p k) where
-  pub offer_in_range : width_of w (suc n) ≤ 2000000 → all (λ j. within 0 2000000 (w j) && either_way 400000 (signed 2147483648 (p j))) (upto (suc n)) ≡ true
-  offer_in_range sum = all_below _ (suc n) (λ j l. rw (← (from_zero 2000000 (w j)), le-leb (w j) 2000000 (omega (arith, width_part w (suc n) j l))) (price_in_range (rising j l).priced))
+module _ (w p : ℕ → ℕ) (n : ℕ) (rising : (k : ℕ) → k < suc n → Rising w p k) (last : rank_at w p n ≤ 1600001) where
+  reached : (j : ℕ) → j < suc n → rank_at w p j ≤ 1600001
+  reached j l = omega (arith, last, rank_within w p n rising j l)
 
-  pub offer_right_lem : rank_at w p n ≤ 800001 → steps_right never_falls w (λ j. signed 2147483648 (p j)) (suc n) ≡ true
+  priced : (j : ℕ) → j < suc n → Priced (p j)
+  priced j l = priced_by_rank (w j) (rising j l).number (reached j l)
+
+  pub offer_in_range : width_of w (suc n) ≤ 2000000 → all (λ j. within 0 2000000 (w j) && either_way 400000 (signed 2147483648 (p j))) (upto (suc n)) ≡ true
+  offer_in_range sum = all_below _ (suc n) (λ j l. rw (← (from_zero 2000000 (w j)), le-leb (w j) 2000000 (omega (arith, width_part w (suc n) j l))) (price_in_range (priced j l)))
+
+  pub offer_right_lem : steps_right never_falls w (λ j. signed 2147483648 (p j)) (suc n) ≡ true
   unfolding steps_right
-  offer_right_lem last =
+  offer_right_lem =
       let e : suc n - 1 ≡ n = omega arith in
-      rw (e, starts (w 0) (rising 0 (omega arith)).priced (omega (arith, rank_within w p n rising 0 (omega arith)))) (all_below _ n steps)
+      rw (e, starts (w 0) (priced 0 (omega arith)) (reached 0 (omega arith))) (all_below _ n steps)
     where
       steps : (j : ℕ) → j < n → steps_follow never_falls (w j) (signed 2147483648 (p j)) (w (j + 1)) (signed 2147483648 (p (j + 1))) ≡ true
       steps j l =
-          rw (add-one j) (follows (w j) (w (suc j)) (rising j (omega arith)).priced (rising (suc j) (omega arith)).priced (rising (suc j) (omega arith)).rises (omega (arith, last, rank_within w p n rising (suc j) (omega arith))))
+          rw (add-one j) (follows (w j) (w (suc j)) (priced j (omega arith)) (priced (suc j) (omega arith)) (rising (suc j) (omega arith)).rises (reached (suc j) (omega arith)))

@@ -33,36 +33,37 @@ fn powers_sound(resource: &ResourceBytes<'_>) -> bool
         && case_ranges::run_at_most(resource, 46, 4, 2000000)
 }
 
-// Where a step stands among the prices, moved up so that the lowest is 0: one of width 0 and price 0 right behind all of them, one
-// of width 0 and another price further on.
+// Where a step stands among the prices, moved up so that the lowest is 0, and doubled: one of width 0 and price 0 between the highest
+// price in range and the next one above it, one of width 0 and another price further on.
 #[tactic(auto, unfolding(crate::specs::Ranks::rank_of))]
 fn rank(width: u32, price: u32, moved: u32) -> u64
     ensures { result ≡ rank_of width price moved }
 {
     if width == 0 {
-        800001 + u64::from(price)
+        1600001 + u64::from(price)
     } else {
-        u64::from(moved)
+        2 * u64::from(moved)
     }
 }
 
-// Ranks that never fall, up to that of a step of width 0 and price 0, are steps that keep their rule. Every step is looked at, also
-// after one that fails: with no way out of the loop the ten are one run of code.
+// Ranks that never fall, up to that of a step of width 0 and price 0, are steps that keep their rule, with prices in range. The loop
+// ends at the first that falls: looked at to the end, the ten keep more numbers than there are registers.
 fn offer_sound(resource: &ResourceBytes<'_>) -> bool
     ensures { result ≡ true → SoundOffer (figures_of resource.now) }
 {
-    let mut right = true;
     let mut last: u64 = 0;
     let mut sum: u64 = 0;
     for j in 0..ENERGY_STEPS {
         let step = resource.step(j);
         let moved = step.price.wrapping_add(400000);
         let here = rank(step.width, step.price, moved);
-        right = right & (moved <= 800000) & (last <= here);
+        if here < last {
+            return false;
+        }
         last = here;
         sum += u64::from(step.width);
     }
-    right & (last <= 800001) & (sum <= 2000000)
+    (last <= 1600001) & (sum <= 2000000)
 }
 
 #[tactic(auto, using(crate::proofs::Parts::resource_sound, case_ranges::proofs::Places::ramps_run, case_ranges::proofs::Places::prices_run))]

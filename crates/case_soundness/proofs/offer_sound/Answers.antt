@@ -6,7 +6,7 @@ use Rattle.case_soundness.proofs.Steps.{width_none, width_more}
 use Rattle.case_soundness.proofs.offer_sound.Goals as goal
 
 pub loop-j-init : goal.loop-j-init
-loop-j-init c = (refl, sym (width_none _), omega arith, λ t. below_none _)
+loop-j-init c = (refl, sym (width_none _), omega arith, below_none _)
 
 pub loop-j-preserved : goal.loop-j-preserved
 unfolding resource_at
@@ -18,7 +18,7 @@ loop-j-preserved c =
     let width : c.step-step.result.width ≡ w v.j = c.step-step.ensures.width in
     let price : c.step-step.result.price ≡ p v.j = c.step-step.ensures.price_number in
     let here : c.rank-here.result ≡ rank_at w p v.j = c.rank-here.ensures ∙ rw (width, price) in
-    (here ∙ sym (rank_next w p v.j), rw (width_more w v.j, v.invariant.1, c.from-sum.ensures, width), search rules, rising_next w p v.j v.invariant.3 (rw (← price) (omega arith)) (rw price) v.invariant.0 here)
+    (here ∙ sym (rank_next w p v.j), rw (width_more w v.j, v.invariant.1, c.from-sum.ensures, width), search rules, rising_next w p v.j v.invariant.3 (rw (← price) (omega arith)) v.invariant.0 here (omega arith))
 
 pub returns : goal.returns
 returns c = let v = c.loop-j in offer_sound c.args.resource.now.bytes.now c.args.resource.now.at (omega arith) v.invariant.0 v.invariant.1 v.invariant.3
