@@ -63,7 +63,9 @@ fn capability_of(terms: TermsInRange, r: ResourceInRange) -> Capability
     }
 }
 
-// Of every resource, each at its own place.
+// Of every resource, each at its own place. Kept apart from the stages that call it, for its registers, as
+// `case_soundness::resources_sound` is.
+#[inline(never)]
 pub fn write_capabilities(case: &SizedCase<'_>, out: &mut [Capability])
     requires { Valid case.now.bytes.now × (case.now.resources ≤ length out.old) }
     ensures { Kept (case_in case.now) case.now.resources out.new }

@@ -78,7 +78,9 @@ fn resource_sound(resource: &ResourceBytes<'_>, zones: usize) -> bool
         && offer_sound(resource)
 }
 
-// Of bytes and counts, since a reader asks for more than that the resources are there.
+// Of bytes and counts, since a reader asks for more than that the resources are there. Kept apart from the stage that calls it: in one
+// function with that, the loop has too few registers and reads the slice's address again for each number.
+#[inline(never)]
 pub fn resources_sound(b: &[u8], resources: usize, zones: usize) -> bool
     requires { ResourcesIn b.now resources zones }
     ensures { result ≡ true → (i : ℕ) → i < resources → SoundResource zones ((case_of b.now).resource i) }

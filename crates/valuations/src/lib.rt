@@ -105,7 +105,8 @@ fn resource_value(kept: &KeptCase<'_>, i: usize, lmp: Millicents) -> Value
 
 // ---- all resources
 
-// With their LMPs.
+// With their LMPs. Kept apart from what calls it, for its registers, as `case_soundness::resources_sound` is.
+#[inline(never)]
 #[tactic(auto, using(arith::proofs::SumSteps::sum_steps))]
 fn sum_values(kept: &KeptCase<'_>, lmps: &[i64]) -> Value
     requires { Lmps (case_bytes kept.now.bounded.priced) (certificate_bytes kept.now.bounded.priced) kept.now.bounded.priced.case.resources lmps.now }
