@@ -35,7 +35,7 @@ use Rattle.charges.specs.Terms.{step_charge, energy_charge, reserve_charges, cur
 
 -- ---- lists
 module _ {A B : Type 0} where
-  map_same : (f g : A → B) (xs : List A) → Each (λ x. f x ≡ g x) xs → map f xs ≡ map g xs
+  pub map_same : (f g : A → B) (xs : List A) → Each (λ x. f x ≡ g x) xs → map f xs ≡ map g xs
   map_same f g [] h = refl
   map_same f g (x ∷ xs) h = λ i. h.0 i ∷ map_same f g xs h.1 i
 

@@ -3,7 +3,7 @@
 // sixteen curve steps. What stands beyond them stays as it was.
 #![tactic(auto)]
 
-ghost use Rattle.std.specs.Prelude.{◌≡◌, map, ◌++◌, ◌+◌, ◌*◌, ◌<◌, ◌≤◌, nat_abs, length, drop};
+ghost use Rattle.std.specs.Prelude.{◌≡◌, map, ◌++◌, ◌+◌, ◌*◌, ◌<◌, ◌≤◌, true, false, pos, nat_abs, length, drop};
 ghost use Rattle.arith.specs.Sums.{upto, across};
 ghost use Rattle.market.specs.Case.{curves};
 ghost use Rattle.market.specs.Cost.{curve_priced, priced, resource_priced_count, curve_priced_count, priced_count_of};
@@ -22,8 +22,8 @@ ghost use Rattle.prices.specs.PricedCase.{the_case, the_prices, the_amounts, cas
 use capabilities::KeptCase;
 use limits::{CurveInRange, OfferInRange, ReserveBounds};
 use market::{
-    Curve, Grains, Kw, MOST_RESOURCES, Millicents, RESOURCE_PRICED, RESOURCE_ROWS, SYSTEM_ROWS,
-    Step, ZONE_ROWS,
+    Curve, ENERGY_STEPS, Grains, Kw, MOST_RESOURCES, Millicents, RESOURCE_PRICED, RESOURCE_ROWS,
+    SYSTEM_ROWS, Step, ZONE_ROWS,
 };
 use net_prices::Nets;
 use prices::{BoundedAmounts, BoundedCase};
@@ -51,19 +51,31 @@ fn step_charge(nets: Nets, on: bool, step: Step, part: Kw) -> Grains
     quantity_charge(net, part, upper)
 }
 
-// The ten energy steps, filled in order. `write_curve` differs in a step's charge: one function of both would have to say of each
-// step, by a closure's `pre` and `post`, what each of the two says in one clause.
-fn write_steps(nets: Nets, on: bool, offer: OfferInRange, energy: Kw, out: &mut [i64])
+// The ten energy steps of an on-line resource, filled in order. `write_curve` differs in a step's charge: one function of both would
+// have to say of each step, by a closure's `pre` and `post`, what each of the two says in one clause.
+fn write_steps(nets: Nets, offer: OfferInRange, energy: Kw, out: &mut [i64])
     requires { UpTo energy.0 most_power × (10 ≤ length out.old) }
-    ensures { out.new ≡ map (energy_charge nets.prices on offer.steps (nat_abs energy.0)) (upto 10) ++ drop 10 out.old }
+    ensures { out.new ≡ map (energy_charge nets.prices true offer.steps (nat_abs energy.0)) (upto 10) ++ drop 10 out.old }
 {
     let mut left = energy;
     for (j, step) in offer.steps.iter().enumerate() {
         let filled = costs::fill(left, step.width);
-        let charge = step_charge(nets, on, *step, filled.part);
+        let charge = step_charge(nets, true, *step, filled.part);
         out[j] = charge.0;
         left = filled.left;
     }
+}
+
+// A resource that is not on-line has no energy, and the upper bounds of its steps are 0: so are their charges.
+fn write_energy(nets: Nets, on: bool, offer: OfferInRange, energy: Kw, out: &mut [i64])
+    requires { (UpTo energy.0 most_power × (on ≡ false → energy.0 ≡ pos 0)) × (10 ≤ length out.old) }
+    ensures { out.new ≡ map (energy_charge nets.prices on offer.steps (nat_abs energy.0)) (upto 10) ++ drop 10 out.old }
+{
+    if !on {
+        out[..ENERGY_STEPS].copy_from_slice(&[0; ENERGY_STEPS]);
+        return;
+    }
+    write_steps(nets, offer, energy, out);
 }
 
 // g, c, s and o.
@@ -101,7 +113,7 @@ fn write_resource(kept: &KeptCase<'_>, i: usize, lmp: Millicents, out: &mut [i64
     let spins = kept.spinning(i);
     let nets = net_prices::nets_for(&kept.bounded.priced, i, spins, lmp, resource);
     let offer = kept.bounded.priced.offer_steps(i);
-    write_steps(nets, on, offer, own.amounts.energy, out);
+    write_energy(nets, on, offer, own.amounts.energy, out);
     // read behind the steps and not before them: of 64 resources that saves 780 instructions
     let uppers = kept.bounds(i);
     write_reserves(nets, own, uppers, &mut out[10..]);

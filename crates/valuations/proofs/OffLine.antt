@@ -1,36 +1,24 @@
--- A resource that is not on-line: its energy is 0, its steps are worth nothing, and the least that they add is 0.
+-- A resource that is not on-line: its steps are worth nothing, and the least that they add is 0.
 use mathlib.Core.Path.{◌≡◌, sym, ap, ◌∙◌}
 use mathlib.Core.Bool.{false}
 use mathlib.Core.List.{List}
-use Prim.Native.Nat.{ℕ, ◌<◌, ◌≤◌}
+use Prim.Native.Nat.{ℕ}
 use native.Mathlib.Omega.{arith}
 use lib.IntN.{pos, ◌+ℤ◌, ◌*ℤ◌, *ℤ-zero}
 use Rattle.arith.specs.Sums.{min_ℤ, sum_of, upto}
 use Rattle.arith.proofs.Sums.{sum-ext, sum-zero}
-use Rattle.market.specs.CaseFile.{case_of}
-use Rattle.market.specs.Availability.{on_line}
-use Rattle.market.specs.UpperBounds.{provided_quantity, energy, upper_bound}
-use Rattle.market.specs.Certificate.{certificate_of}
-use Rattle.market.specs.Cost.{filled}
 use Rattle.market.specs.Records.{grains}
 use Rattle.market.specs.declared.Kw.{Kw}
 use Rattle.market.specs.declared.Step.{Step}
-use Rattle.market.proofs.Families.{at_quantity}
-use Rattle.market.proofs.EnergyBounds.{energy_within}
 use Rattle.limits.specs.Widths.{widths_of}
-use Rattle.prices.specs.Standing.{Standing}
-use Rattle.prices.proofs.Known.{resource_below}
 use Rattle.market.specs.declared.PerService.{PerService}
 use Rattle.market.specs.declared.Millicents.{Millicents}
 use Rattle.case_records.specs.Ranged.{offer_step}
 use Rattle.costs.specs.Steps.{step_worth, steps_worth}
 use Rattle.costs.specs.Worth.{thousands}
+use Rattle.costs.proofs.OffLine.{nothing_filled}
 use Rattle.bounds.specs.Terms.{step_least}
 use Rattle.valuations.specs.Values.{StepsValued}
-
-nothing_filled : (w : ℕ → ℕ) (j : ℕ) → filled w 0 j ≡ 0
-unfolding filled
-nothing_filled w j = omega arith
 
 step_worthless : (steps : ℕ → Step) (j : ℕ) → step_worth steps 0 j ≡ pos 0
 unfolding step_worth
@@ -52,13 +40,3 @@ off_line_valued steps nets amount e =
       worth_is = ap thousands (sym (rw e (nothing_worth (offer_step steps) 10)));
       least_is = record { is = sym (nothing_least nets (offer_step steps) 10); size = omega arith };
     }
-
--- past ground 13
-pub no_energy : {b q : List ℕ} {r z f : ℕ} → Standing b q r z f → (i : ℕ) → i < r → on_line ((case_of b).resource i) ≡ false → (certificate_of q).amount (provided_quantity i energy) ≡ 0
-unfolding upper_bound
-no_energy {b} {q} s i l off =
-    let c = case_of b in
-    let x = (certificate_of q).amount in
-    let below = energy_within c (c.resource i) (at_quantity c (λ a. x a ≤ upper_bound c a) s.bounded (provided_quantity i energy) (resource_below s.prices l)) in
-    let none : x (provided_quantity i energy) ≤ 0 = rw off at below in
-    omega arith

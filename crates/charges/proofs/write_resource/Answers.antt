@@ -1,20 +1,22 @@
 use mathlib.Core.List.{List, ◌++◌, map}
-use mathlib.Core.Path.{◌≡◌, refl, ap, ◌∙◌}
+use mathlib.Core.Path.{◌≡◌, refl, sym, ap, ◌∙◌}
+use mathlib.Core.Bool.{false}
 use Prim.Native.Nat.{◌≤◌}
 use native.Mathlib.Omega.{arith}
 use lib.ListN.{length, drop}
-use lib.IntN.{ℤ, nat_abs}
+use lib.IntN.{ℤ, pos, nat_abs}
 use Rattle.market.specs.Cost.{resource_priced_count}
 use Rattle.arith.specs.Sums.{upto}
-use Rattle.market.specs.Records.{record_of, offer_steps_of}
+use Rattle.market.specs.Records.{record_of, offer_steps_of, amounts_of}
 use Rattle.market.specs.Availability.{on_line}
 use Rattle.limits.specs.Together.{reserve_bounds_of}
 use Rattle.arith.proofs.Buffers.{rest_length, write_on}
+use Rattle.costs.proofs.OffLine.{no_energy}
 use Rattle.charges.specs.Terms.{energy_charge, reserve_charges}
 use Rattle.charges.proofs.Families.{numbers_count}
 use Rattle.charges.proofs.Known.{energy_fits, bounds_fit, resource_listed}
 use Rattle.charges.proofs.write_resource.Goals as goal
-use Rattle.charges.proofs.write_resource.Goals.{After-bounds-uppers, After-offer_steps-offer, After-on_line-on, After-resource-resource, After-write_steps}
+use Rattle.charges.proofs.write_resource.Goals.{After-bounds-uppers, After-offer_steps-offer, After-on_line-on, After-resource-resource, After-write_energy}
 use Rattle.prices.specs.PricedCase.{the_case}
 
 resource : (c : After-resource-resource) →
@@ -31,22 +33,26 @@ on_line_is c = c.on_line-on.ensures
 bounds : (c : After-bounds-uppers) → c.bounds-uppers.result ≡ reserve_bounds_of (the_case c.args.kept.now.bounded.priced) ((the_case c.args.kept.now.bounded.priced).resource c.args.i)
 bounds c = c.bounds-uppers.ensures
 
-room : (c : After-write_steps) → resource_priced_count ≤ length c.write_steps.new.out
-room c = omega (arith, c.write_steps.auto.out, c.requires.room.1)
+room : (c : After-write_energy) → resource_priced_count ≤ length c.write_energy.new.out
+room c = omega (arith, c.write_energy.auto.out, c.requires.room.1)
 
-pub write_steps-requires : goal.write_steps-requires
-write_steps-requires c =
+idle : (c : After-on_line-on) → c.on_line-on.result ≡ false → c.amounts-own.result.amounts.energy.0 ≡ pos 0
+unfolding amounts_of
+idle c off = rw c.amounts-own.ensures (ap pos (no_energy c.args.kept.now.bounded.standing c.args.i c.requires.room.0 (sym (on_line_is c) ∙ off)))
+
+pub write_energy-requires : goal.write_energy-requires
+write_energy-requires c =
     let p = c.args.kept.now.bounded.standing in
     let l = c.requires.room.0 in
     let room : 10 ≤ length c.args.out.now = omega (arith, c.requires.room.1) in
-    (energy_fits p l c.amounts-own.ensures, room)
+    ((energy_fits p l c.amounts-own.ensures, idle (goal.at.write_energy-requires c).After-on_line-on), room)
 
 pub write_reserves-requires : goal.write_reserves-requires
 write_reserves-requires c =
     let p = c.args.kept.now.bounded.standing in
     let l = c.requires.room.0 in (
       bounds_fit p l (bounds (goal.at.write_reserves-requires c).After-bounds-uppers),
-      rw (rest_length 10 c.write_steps.new.out) (omega (arith, room (goal.at.write_reserves-requires c).After-write_steps)),
+      rw (rest_length 10 c.write_energy.new.out) (omega (arith, room (goal.at.write_reserves-requires c).After-write_energy)),
     )
 
 pub returns : goal.returns
@@ -56,7 +62,7 @@ returns c =
     let on = c.on_line-on in
     let u = c.bounds-uppers in
     let p = c.offer_steps-offer.result.steps in
-    let w = c.write_steps in
+    let w = c.write_energy in
     let x = c.write_reserves in
     let o = c.args.out.now in
     let g = energy_charge n.result.prices on.result p (nat_abs a.result.amounts.energy.0) in

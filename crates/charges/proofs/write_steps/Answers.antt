@@ -1,6 +1,6 @@
 use mathlib.Core.Path.{◌∙◌}
 use lib.IntN.{nat_abs}
-use Rattle.std.proofs.Common.{◌≡◌, arith, rules, w64, to_z, of_z}
+use Rattle.std.proofs.Common.{◌≡◌, true, arith, rules, w64, to_z, of_z}
 use Rattle.std.proofs.lemmas.Int.{to_z-of_z}
 use Rattle.market.specs.Records.{grains}
 use Rattle.case_records.specs.Ranged.{offer_step}
@@ -25,5 +25,5 @@ loop-j-preserved c =
     let value = c.step_charge-charge.result.0 in
     let e : to_z w64 (of_z w64 value) ≡ value = search (rules, to_z-of_z) in
     let f = filling (goal.at.loop-j-preserved c).After-fill-filled in
-    let v : c.step_charge-charge.result ≡ grains (energy_charge c.args.nets.prices c.args.on c.args.offer.steps (nat_abs c.args.energy.0) c.loop-j.j) = c.step_charge-charge.ensures ∙ rw f in
+    let v : c.step_charge-charge.result ≡ grains (energy_charge c.args.nets.prices true c.args.offer.steps (nat_abs c.args.energy.0) c.loop-j.j) = c.step_charge-charge.ensures ∙ rw f in
     rw (e, v) (one_charged c.loop-j.invariant (omega arith) f)

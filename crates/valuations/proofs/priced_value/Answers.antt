@@ -13,7 +13,7 @@ use Rattle.costs.proofs.Known.{resource_known, resource_room}
 use Rattle.costs.proofs.Totals.{resource_worth_is}
 use Rattle.bounds.proofs.PricedTerms.{resource_least_is}
 use Rattle.valuations.proofs.Known.{steps_room}
-use Rattle.valuations.proofs.OffLine.{no_energy}
+use Rattle.costs.proofs.OffLine.{no_energy}
 use Rattle.valuations.proofs.priced_value.Goals as goal
 use Rattle.valuations.proofs.priced_value.Goals.{After-amounts-own, After-bounds-uppers, After-nets_for-nets, After-offer_steps-offer, After-on_line-on, After-resource-resource}
 use Rattle.prices.specs.PricedCase.{the_case, the_prices, the_amounts}
