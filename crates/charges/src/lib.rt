@@ -119,7 +119,9 @@ fn write_resource(kept: &KeptCase<'_>, i: usize, lmp: Millicents, out: &mut [i64
     write_reserves(nets, own, uppers, &mut out[10..]);
 }
 
-// Each resource's charges, from its own place on, with its LMP.
+// Each resource's charges, from its own place on, with its LMP. Kept apart from what calls it, for its registers, as
+// `case_soundness::resources_sound` is.
+#[inline(never)]
 #[tactic(auto, unfolding(arith::specs::Sums::upto, arith::specs::Sums::across))]
 fn write_resources(kept: &KeptCase<'_>, lmps: &[i64], out: &mut [i64])
     requires room { kept.now.bounded.priced.case.resources * resource_priced_count ≤ length out.old }
