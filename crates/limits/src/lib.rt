@@ -5,7 +5,7 @@
 // `CurveInRange` carry.
 #![tactic(auto)]
 
-ghost use Rattle.std.specs.Prelude.{◌≡◌, ℕ, ◌+◌, ◌*◌, ◌-◌, ◌/◌, ◌<◌, ◌≤◌, min, max, nat_abs, pos, length, get_or};
+ghost use Rattle.std.specs.Prelude.{◌≡◌, ℕ, ◌+◌, ◌*◌, ◌-◌, ◌/◌, ◌<◌, ◌≤◌, cond, min, max, nat_abs, pos, length, get_or};
 ghost use Rattle.std.specs.Int.Signed.{lt_z};
 ghost use Rattle.market.specs.Case.{Case, Resource as Figures, width_of};
 ghost use Rattle.market.specs.declared.Curve.{Curve};
@@ -111,6 +111,13 @@ fn quotient(n: u64, times: u64, over: u64) -> u64
     ensures { result ≡ n * times / over }
 {
     n * times / over
+}
+
+// The amount if `on`, else 0: by a product, since of a test the compiler makes a branch.
+fn amount_if(on: bool, a: Kw) -> Kw
+    ensures { (n : ℕ) → a ≡ power n → result ≡ power (cond on n 0) }
+{
+    Kw(a.0 * i64::from(on))
 }
 
 // a × times / over, as an amount.
@@ -229,15 +236,14 @@ fn total_width(steps: &[Step]) -> Kw
 
 // ---- upper bound of a resource's energy
 
-// e: on-line, the widths of its energy steps together.
+// e: on-line, the widths of its energy steps together. They are added up for each resource: which is on-line follows no order that a
+// processor could foresee, and a sum in vain costs less than a wrong branch.
 #[tactic(auto, using(market::proofs::EnergyBounds::energy_bound_is))]
 pub fn energy_bound(on: bool, offer: OfferInRange) -> Kw
     ensures { (c : Case) (s : Figures) → on ≡ on_line s → offer.steps ≡ offer_steps_of s → result ≡ power (service_bound c s energy) }
 {
-    if !on {
-        return Kw(0);
-    }
-    total_width(&offer.steps)
+    let together = total_width(&offer.steps);
+    amount_if(on, together)
 }
 
 // ---- of a cleared quantity

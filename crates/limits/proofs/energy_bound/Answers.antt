@@ -12,5 +12,5 @@ use Rattle.limits.proofs.energy_bound.Goals as goal
 pub returns : goal.returns
 returns c = λ k s o e.
     let n : length c.args.offer.steps ≡ energy_steps = search rules in
-    rw (energy_bound_is k s, ← o, c.if-not-on.false)
-    (c.total_width.ensures ∙ rw n (ap power (widths_same (widths_of (offer_step c.args.offer.steps)) s.step_width energy_steps (offer_width_is s e))))
+    rw (energy_bound_is k s, ← o)
+    (c.amount_if.ensures _ (c.total_width-together.ensures ∙ rw n (ap power (widths_same (widths_of (offer_step c.args.offer.steps)) s.step_width energy_steps (offer_width_is s e)))))
