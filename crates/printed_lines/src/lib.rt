@@ -5,7 +5,7 @@
 ghost use Rattle.std.specs.Prelude.{Ok, ◌*◌, ◌<◌, length};
 ghost use Rattle.arith.specs.Sums.{upto, across};
 ghost use Rattle.market.specs.CaseCheck.{most_resources, most_zones};
-ghost use Rattle.market.specs.Program.{refusal_line, resource_line, zone_line};
+ghost use Rattle.market.specs.Program.{refusal_line, resource_line, zone_line, report as reportOf};
 ghost use Rattle.decimals.specs.Written.{HasRoom, Adds};
 ghost use Rattle.printed_lines.specs.Lines.{value_line, head_lines, resource_text, zone_text, schedule_lines};
 ghost use Rattle.printed_lines.specs.Room.{most_value_line, most_head, most_schedule, most_resource_line, most_zone_line, most_refusal, most_text};
