@@ -25,6 +25,7 @@ pub struct SizedCase<'a> {
 impl<'a> SizedCase<'a> {
     ghost use Rattle.case_reader.specs.Reader.{case_in};
 
+    // Beside `SizedCertificate::new`: each makes a type of its own, with another fact in its ghost field.
     pub fn new(bytes: &'a [u8], n: Counts) -> Self
         requires { CaseBytes bytes.now n.resources n.zones n.flowgates }
         ensures bytes { result.bytes ≡ bytes.entry }

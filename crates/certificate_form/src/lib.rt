@@ -29,6 +29,7 @@ fn same_counts(q: &[u8], n: Counts) -> bool
     case_check::counts_at(q) == n
 }
 
+// Beside the `size_right` of case_check: a line each, over the file's own size.
 #[tactic(auto, unfolding(crate::specs::Form::size_is))]
 pub fn size_right(q: &[u8], n: Counts) -> bool
     requires { CountsWithin n.resources n.zones n.flowgates }

@@ -39,7 +39,7 @@ impl Unit for ThousandGrains {
     }
 }
 
-// A price in cents times an amount.
+// A price in cents times an amount. It names its units, as the products of `units` do.
 pub fn worth(a: Cents, b: Kw) -> ThousandGrains
     requires { ProductRoom a.0 b.0 }
     ensures { result ≡ thousands (a.0 *ℤ b.0) }
