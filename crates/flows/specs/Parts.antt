@@ -1,7 +1,8 @@
--- Energies in two parts each, e / 2048 and e % 2048, as they are kept in two lists.
+-- Energies in two parts each, e / 2048 and e % 2048, as they are kept in a list.
 use Rattle.std.specs.Prelude.{◌≡◌, List, ℕ, ◌/◌, ◌%◌, ◌<◌, ◌≤◌, ℤ, pos, length, get_or}
 use Rattle.market.specs.UpperBounds.{energy, provided_quantity}
 use Rattle.market.specs.Certificate.{certificate_of}
+use Rattle.flows.specs.declared.EnergyInParts.{EnergyInParts}
 
 -- a signed 32-bit number is smaller
 abbrev pub range32 : ℕ
@@ -31,11 +32,10 @@ high_of e = pos (e / high_unit)
 abbrev pub low_of : ℕ → ℤ
 low_of e = pos (e % high_unit)
 
--- one part of the energy of each of so many resources stands in a list
-pub record Kept (part : ℕ → ℤ) (q : List ℕ) (resources : ℕ) (parts : List ℤ) : Type 0 where
-  pub long : resources ≤ length parts
-  pub each : (i : ℕ) → i < resources → get_or parts i (pos 0) ≡ part (energy_of q i)
+abbrev pub in_parts : ℕ → EnergyInParts
+in_parts e = record { high = high_of e; low = low_of e }
 
-pub record EnergyParts (q : List ℕ) (resources : ℕ) (highs lows : List ℤ) : Type 0 where
-  pub high : Kept high_of q resources highs
-  pub low : Kept low_of q resources lows
+-- the energy of each of so many resources stands in a list
+pub record EnergyParts (q : List ℕ) (resources : ℕ) (parts : List EnergyInParts) : Type 0 where
+  pub long : resources ≤ length parts
+  pub each : (i : ℕ) → i < resources → get_or parts i (in_parts 0) ≡ in_parts (energy_of q i)

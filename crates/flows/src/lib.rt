@@ -26,6 +26,15 @@ const SIGNED_HIGH_UNIT: i64 = HIGH_UNIT as i64;
 
 // ---- energies in parts
 
+// An energy is its high part times 2,048, and its low part.
+#[derive(Clone, Copy, Drop)]
+pub struct EnergyInParts {
+    pub high: i16,
+    pub low: i16,
+}
+
+pub const NO_ENERGY: EnergyInParts = EnergyInParts { high: 0, low: 0 };
+
 fn unsigned(e: Kw) -> u64
     requires { UpTo e.0 most_energy }
     ensures { result ≡ nat_abs e.0 }
@@ -42,21 +51,18 @@ fn narrow(part: u64) -> i16
     part as i16
 }
 
-// The parts of each resource's energy, at its own place of two lent buffers. An array of pairs was proved and measured on 64
-// resources: 59,170 instructions a check in place of 58,703, when the check's bar, 0.85 of the baseline, was missed by 0.004 with two
-// arrays, and 858 more for the charges, which miss theirs.
-pub fn write_energies(certificate: &SizedCertificate<'_>, high: &mut [i16], low: &mut [i16])
+// The parts of each resource's energy, at its own place of a lent buffer.
+pub fn write_energies(certificate: &SizedCertificate<'_>, parts: &mut [EnergyInParts])
     requires bounded { EnergyBounded certificate.now.bytes.now certificate.now.resources }
-    requires r_in_bounds { (certificate.now.resources ≤ length high.old) × (certificate.now.resources ≤ length low.old) }
-    ensures { EnergyParts certificate.now.bytes.now certificate.now.resources high.new low.new }
+    requires r_in_bounds { certificate.now.resources ≤ length parts.old }
+    ensures { EnergyParts certificate.now.bytes.now certificate.now.resources parts.new }
 {
     for i in 0..certificate.resources {
         let a = certificate.amounts(i);
         let e = unsigned(a.energy);
-        let high_part = narrow(e / HIGH_UNIT);
-        let low_part = narrow(e % HIGH_UNIT);
-        high[i] = high_part;
-        low[i] = low_part;
+        let high = narrow(e / HIGH_UNIT);
+        let low = narrow(e % HIGH_UNIT);
+        parts[i] = EnergyInParts { high, low };
     }
 }
 
@@ -95,8 +101,9 @@ pub fn flow(energies: &Energies<'_>, g: usize) -> Watts
     let mut lows: i32 = 0;
     for i in 0..energies.bounded.priced.case.resources {
         let factor = factor_at(&energies.bounded, g, i);
-        highs = added(highs, factor, energies.high[i]);
-        lows = added(lows, factor, energies.low[i]);
+        let part = energies.parts[i];
+        highs = added(highs, factor, part.high);
+        lows = added(lows, factor, part.low);
     }
     joined(highs, lows)
 }

@@ -122,10 +122,9 @@ fn write_flowgates(bounded: &BoundedCase<'_>, out: &mut [i64])
     requires { bounded.now.priced.case.flowgates ≤ length out.old }
     ensures { out.new ≡ map (row_charge_in (case_bytes bounded.now.priced) (certificate_bytes bounded.now.priced)) (flowgate_rows (the_case bounded.now.priced)) ++ drop bounded.now.priced.case.flowgates out.old }
 {
-    let mut high = [0i16; MOST_RESOURCES];
-    let mut low = [0i16; MOST_RESOURCES];
-    flows::write_energies(&bounded.priced.certificate, &mut high, &mut low);
-    let energies = Energies::new(*bounded, &high, &low);
+    let mut parts = [flows::NO_ENERGY; MOST_RESOURCES];
+    flows::write_energies(&bounded.priced.certificate, &mut parts);
+    let energies = Energies::new(*bounded, &parts);
     for g in 0..bounded.priced.case.flowgates {
         let value = flowgate_charge(&energies, g);
         out[g] = value.0;

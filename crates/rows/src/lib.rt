@@ -125,10 +125,9 @@ fn flowgate_over(energies: &Energies<'_>, g: usize) -> Option<u32>
 fn flowgates_over(bounded: &BoundedCase<'_>) -> Option<u32>
     ensures { found_at RowBroken result ≡ broken_from (case_bytes bounded.now.priced) (certificate_bytes bounded.now.priced) (first_flowgate_row bounded.now.priced.case.zones) (flowgate_rows (the_case bounded.now.priced)) }
 {
-    let mut high = [0i16; MOST_RESOURCES];
-    let mut low = [0i16; MOST_RESOURCES];
-    flows::write_energies(&bounded.priced.certificate, &mut high, &mut low);
-    let energies = Energies::new(*bounded, &high, &low);
+    let mut parts = [flows::NO_ENERGY; MOST_RESOURCES];
+    flows::write_energies(&bounded.priced.certificate, &mut parts);
+    let energies = Energies::new(*bounded, &parts);
     for g in 0..bounded.priced.case.flowgates {
         if let Some(row) = flowgate_over(&energies, g) {
             return Some(row);

@@ -20,16 +20,13 @@ energy-is : (c : After-unsigned-e) → c.unsigned-e.result ≡ energy_of c.args.
 unfolding amounts_of
 energy-is c = c.unsigned-e.ensures ∙ rw c.amounts-a.ensures
 
-pub narrow-high_part-requires : goal.narrow-high_part-requires
-narrow-high_part-requires c =
-    rw (energy-is (goal.at.narrow-high_part-requires c).After-unsigned-e) (high_small _ (c.requires.bounded.most c.loop-i.i (omega arith)))
+pub narrow-high-requires : goal.narrow-high-requires
+narrow-high-requires c =
+    rw (energy-is (goal.at.narrow-high-requires c).After-unsigned-e) (high_small _ (c.requires.bounded.most c.loop-i.i (omega arith)))
 
 pub loop-i-preserved : goal.loop-i-preserved
 loop-i-preserved c =
     let l = c.loop-i in
-    let high_is : to_z w16 (of_z w16 c.narrow-high_part.result) ≡ high_of (energy_of c.args.certificate.now.bytes.now l.i) = to_z-of_z (sfits_of {w = w16} c.narrow-high_part.type_inv) ∙ c.narrow-high_part.ensures ∙ rw (energy-is (goal.at.loop-i-preserved c).After-unsigned-e) in
-    let low-is : to_z w16 (of_z w16 c.narrow-low_part.result) ≡ low_of (energy_of c.args.certificate.now.bytes.now l.i) = to_z-of_z (sfits_of {w = w16} c.narrow-low_part.type_inv) ∙ c.narrow-low_part.ensures ∙ rw (energy-is (goal.at.loop-i-preserved c).After-unsigned-e) in
-    rw (high_is, low-is) record {
-      high = one_kept high_of c.args.certificate.now.bytes.now l.i l.high (omega arith) l.invariant.high;
-      low = one_kept low_of c.args.certificate.now.bytes.now l.i l.low (omega arith) l.invariant.low;
-    }
+    let high_is : to_z w16 (of_z w16 c.narrow-high.result) ≡ high_of (energy_of c.args.certificate.now.bytes.now l.i) = to_z-of_z (sfits_of {w = w16} c.narrow-high.type_inv) ∙ c.narrow-high.ensures ∙ rw (energy-is (goal.at.loop-i-preserved c).After-unsigned-e) in
+    let low-is : to_z w16 (of_z w16 c.narrow-low.result) ≡ low_of (energy_of c.args.certificate.now.bytes.now l.i) = to_z-of_z (sfits_of {w = w16} c.narrow-low.type_inv) ∙ c.narrow-low.ensures ∙ rw (energy-is (goal.at.loop-i-preserved c).After-unsigned-e) in
+    rw (high_is, low-is) (one_kept c.args.certificate.now.bytes.now l.i l.parts (omega arith) l.invariant)

@@ -10,7 +10,7 @@ use Rattle.prices.specs.PricedCase.{the_case}
 use Rattle.rows.proofs.flowgates_over.Goals as goal
 
 pub write_energies-requires : goal.write_energies-requires
-write_energies-requires c = record { bounded = rw (same_resources c.args.bounded.now.priced) (energy_bounded c.args.bounded.now.standing); r_in_bounds = (c.args.bounded.now.priced.certificate.whole.counts.most_resources, c.args.bounded.now.priced.certificate.whole.counts.most_resources) }
+write_energies-requires c = record { bounded = rw (same_resources c.args.bounded.now.priced) (energy_bounded c.args.bounded.now.standing); r_in_bounds = c.args.bounded.now.priced.certificate.whole.counts.most_resources }
 
 pub loop-g-init : goal.loop-g-init
 loop-g-init c = search_none _ _ _ 1 (λ i. refl) _
