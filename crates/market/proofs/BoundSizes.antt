@@ -32,7 +32,7 @@ module _ (c : Case) (h : CaseRanges c) (y : Prices) (p : PriceRanges c y) where
         arith,
         total_mono (λ r. nat_abs (y r *ℤ coefficient c r q)) (λ r. most_price) (rows c) (each_row c _ (λ r m. (taken_size r q m n).le)),
         rows_most c h.counts (λ r. most_price),
-        taken_figure c,
+        taken_figure,
       )
 
   -- every net price, by the count of all rows
@@ -50,7 +50,7 @@ module _ (c : Case) (h : CaseRanges c) (y : Prices) (p : PriceRanges c y) where
         arith,
         total_mono (λ r. nat_abs (y r *ℤ right_side c r)) (λ r. highest_price r * most_right r) (rows c) (each_row c _ (λ r m. (row_term_lem r m).le)),
         rows_most c h.counts (λ r. highest_price r * most_right r),
-        row_terms_figure c,
+        row_terms_figure,
       )
 
   -- and what is priced
@@ -67,7 +67,7 @@ module _ (c : Case) (h : CaseRanges c) (y : Prices) (p : PriceRanges c y) where
         arith,
         priced_most c h most_net (λ q. nat_abs (f q)) (λ q n. (m q n).le),
         quantities_most c h.counts (λ q. most_net q * most_amount q),
-        products_figure c,
+        products_figure,
       )
 
   pub products_most : size_of (λ q. net_price c y q *ℤ pos (priced_upper_bound c q)) (priced c) ≤ most_products

@@ -80,12 +80,12 @@ module _ (c : Case) (z : Schedule) where
   unfolding part priced_upper_bound
   whole_fits i s h = between h
 
-  resource_fits : (i : ℕ) → ResourceBounded c z i → Each PartFits (priced_of i)
+  resource_fits : (i : ℕ) → ResourceBounded c z i → Each PartFits (priced_of c.version i)
   unfolding part priced_upper_bound
   resource_fits i u =
-      each_join PartFits (map (priced_energy_step i) (upto energy_steps)) (map (priced_whole i) reserve_services)
+      each_join PartFits (map (priced_energy_step i) (upto energy_steps)) (map (priced_whole i) (reserve_services c.version))
       (each_map PartFits (priced_energy_step i) (upto energy_steps) (each-any (λ j. PartFits (priced_energy_step i j)) (upto energy_steps) (λ j. between (step_below (on_line (c.resource i)) (c.resource i).step_width energy_steps (z (provided_quantity i energy)) j (energy_within c (c.resource i) u.0)))))
-      (each_map PartFits (priced_whole i) reserve_services (each_imp (λ s. whole_fits i s) reserve_services u.1))
+      (each_map PartFits (priced_whole i) (reserve_services c.version) (each_imp (λ s. whole_fits i s) (reserve_services c.version) u.1))
 
   curve_fits : (k : Curve) → Each PartFits (curve_priced k)
   unfolding part priced_upper_bound
@@ -95,9 +95,9 @@ module _ (c : Case) (z : Schedule) where
   pub parts_fit : Bounded c z → Each PartFits (priced c)
   unfolding priced
   parts_fit v =
-      each_join PartFits (across priced_of (upto c.resources)) (across curve_priced curves)
-      (each-across PartFits priced_of (upto c.resources) (each_imp resource_fits (upto c.resources) (by_kind c z v).1))
-      (each-across PartFits curve_priced curves (each-any (λ k. Each PartFits (curve_priced k)) curves curve_fits))
+      each_join PartFits (across (priced_of c.version) (upto c.resources)) (across curve_priced (curves c.version))
+      (each-across PartFits (priced_of c.version) (upto c.resources) (each_imp resource_fits (upto c.resources) (by_kind c z v).1))
+      (each-across PartFits curve_priced (curves c.version) (each-any (λ k. Each PartFits (curve_priced k)) (curves c.version) curve_fits))
 
   row_fits : (y : Prices) → Bounded c z → (r : Row) → Meets (sense r) (slack c z r) × PriceMay (sense r) (y r) → L.RowFits (programme c) y (parts c z) r
   row_fits y v r h = rw (slack_is v r) (row_sign (sense r) (y r) (slack c z r) h.0 h.1)

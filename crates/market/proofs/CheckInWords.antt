@@ -5,7 +5,7 @@ use Rattle.market.specs.Case.{Case, Resource, Reserve}
 use Rattle.market.specs.CaseCheck.{most_resources, most_zones, most_flowgates, counts_right, reserve_in_range, resource_in_range, flowgate_in_range, fields_in_range, pairs_ordered, limits_ordered, powers, ramps, reserve_prices}
 use Rattle.market.specs.Rows.{balance_row, market_row, zone_row, flowgate_row, limit_row}
 use Rattle.market.specs.CheckInWords.{Between, ReserveWithin, ResourceWithin, FlowgateWithin, FieldsWithin, PairsInOrder, CheckInWords}
-use Rattle.market.proofs.Tests.{Decides, exactly, reworded, both, le_test, le_ℤ_test, between_test, most_test, either_test, each_test, below_test, curves_test, reserves_test}
+use Rattle.market.proofs.Tests.{Decides, exactly, reworded, both, le_test, le_ℤ_test, between_test, most_test, either_test, each_test, below_test, curves_test, zoned_test, reserves_test}
 use Rattle.market.proofs.StepOrder.{steps_rule_test}
 
 counts_test : (r z f : ℕ) → Decides (counts_right r z f) (Between 1 most_resources r × Between 1 most_zones z × (f ≤ most_flowgates))
@@ -52,8 +52,8 @@ flowgate_test c f =
 fields_test : (c : Case) → Decides (fields_in_range c) (FieldsWithin c)
 unfolding fields_in_range
 fields_test c =
-    let curve = curves_test (λ k. below_test (λ j. both (most_test 8000000 (c.curve_width k j)) (most_test 400000 (c.curve_price k j))) 4) in
-    let zone = below_test (λ z. curves_test (λ k. most_test 2000000 (c.zone_requirement z k))) c.zones in
+    let curve = curves_test c.version (λ k. below_test (λ j. both (most_test 8000000 (c.curve_width k j)) (most_test 400000 (c.curve_price k j))) 4) in
+    let zone = below_test (λ z. zoned_test (λ k. most_test 2000000 (c.zone_requirement z k))) c.zones in
     let own = both (both (most_test 128000000 c.demand) (reserves_test (reserve_test c))) curve in
     reworded (both (both (both own zone) (below_test (λ i. resource_test c.zones (c.resource i)) c.resources)) (below_test (flowgate_test c) c.flowgates))
     (λ h.

@@ -2,16 +2,17 @@
 use mathlib.Core.Path.{◌≡◌, refl, ◌∙◌, ap}
 use mathlib.Core.List.{List}
 use Prim.Native.Nat.{ℕ, ◌+◌, ◌*◌, ◌≤◌}
-use native.Mathlib.Nat.{mul-le-mul}
+use native.Mathlib.Nat.{le_refl, mul-le-mul}
 use native.Mathlib.Omega.{arith}
 use lib.ListN.{length, length-append, length-replicate}
 use Rattle.arith.specs.Sums.{total_of, upto}
 use Rattle.arith.proofs.NaturalSums.{total-append, total-across, total_same, total-replicate}
 use Rattle.arith.proofs.Lists.{length-across, length-upto}
-use Rattle.market.specs.CaseFile.{flowgate_size, case_size}
+use Rattle.market.specs.Version.{Version, first}
+use Rattle.market.specs.CaseFile.{resource_size, flowgate_size, case_size}
 use Rattle.market.specs.CaseCheck.{most_resources, most_flowgates, CountsWithin, largest_case_size}
-use Rattle.market.specs.Certificate.{certificate_size}
-use Rattle.market.specs.Numbers.{Field, field_width, times, case_fields, certificate_fields}
+use Rattle.market.specs.Certificate.{entry_size, certificate_size}
+use Rattle.market.specs.Numbers.{Field, field_width, times, head_fields, zone_fields, resource_fields, flowgate_fields, case_fields, certificate_head_fields, entry_fields, certificate_fields}
 
 -- ---- the same fields n times
 pub times_length : (n : ℕ) (fs : List Field) → length (times n fs) ≡ n * length fs
@@ -23,36 +24,57 @@ unfolding times
 times_width n fs = total-across field_width (λ i. fs) (upto n) ∙ total_same (total_of field_width fs) (upto n) ∙ ap (λ (m : ℕ). m * total_of field_width fs) (length-upto n)
 
 -- ---- the two files
-pub case_count : (r z f : ℕ) → length (case_fields r z f) ≡ 48 + 4 * z + 43 * r + f * (r + 1)
+pub case_count : (version : Version) (r z f : ℕ) → length (case_fields version r z f)
+    ≡ length (head_fields version) + length zone_fields * z + length (resource_fields version) * r + f * length (flowgate_fields version r)
 unfolding case_fields
-case_count r z f = simp (length-append, times_length, length-replicate) (omega arith)
+case_count version r z f = simp (length-append, times_length) (omega arith)
 
-pub certificate_count : (r z f : ℕ) → length (certificate_fields r z f) ≡ 12 + 4 * z + f + 10 * r
+pub certificate_count : (version : Version) (r z f : ℕ) → length (certificate_fields version r z f)
+    ≡ length (certificate_head_fields version) + length zone_fields * z + f + length (entry_fields version) * r
 unfolding certificate_fields
-certificate_count r z f = simp (length-append, times_length) (omega arith)
+certificate_count version r z f = simp (length-append, times_length) (omega arith)
 
-pub case_fills : (r z f : ℕ) → 5 + total_of field_width (case_fields r z f) ≡ case_size r z f
+-- of version 1
+pub first_case_count : (r z f : ℕ) → length (case_fields first r z f) ≡ 48 + 4 * z + 43 * r + f * (r + 1)
+unfolding case_fields
+first_case_count r z f = simp (length-append, times_length, length-replicate) (omega arith)
+
+pub first_certificate_count : (r z f : ℕ) → length (certificate_fields first r z f) ≡ 12 + 4 * z + f + 10 * r
+unfolding certificate_fields
+first_certificate_count r z f = simp (length-append, times_length) (omega arith)
+
+pub case_fills : (version : Version) (r z f : ℕ) → 5 + total_of field_width (case_fields version r z f) ≡ case_size version r z f
 unfolding case_fields total_of
-case_fills r z f = simp (total-append, times_width, total-replicate) (omega arith)
+case_fills first r z f = simp (total-append, times_width, total-replicate) (omega arith)
 
-pub certificate_fills : (r z f : ℕ) → 5 + total_of field_width (certificate_fields r z f) ≡ certificate_size r z f
+pub certificate_fills : (version : Version) (r z f : ℕ) → 5 + total_of field_width (certificate_fields version r z f) ≡ certificate_size version r z f
 unfolding certificate_fields total_of
-certificate_fills r z f = simp (total-append, times_width) (omega arith)
+certificate_fills first r z f = simp (total-append, times_width) (omega arith)
 
 -- ---- of counts within the largest
 pub fewer_resources : {i r z f : ℕ} → CountsWithin r z f → i ≤ r → CountsWithin i z f
 fewer_resources n l = record { most_resources = omega (arith, n.most_resources, l); most_zones = n.most_zones; most_flowgates = n.most_flowgates }
 
-module _ {r z f : ℕ} (n : CountsWithin r z f) where
-  pub flowgates_within : f * flowgate_size r ≤ most_flowgates * flowgate_size most_resources
-  flowgates_within = mul-le-mul {n₁ = f} {m₁ = flowgate_size r} {n₂ = most_flowgates} {m₂ = flowgate_size most_resources} n.most_flowgates (omega (arith, n.most_resources))
+module _ (version : Version) {r z f : ℕ} (n : CountsWithin r z f) where
+  pub flowgates_within : f * flowgate_size version r ≤ most_flowgates * flowgate_size version most_resources
+  flowgates_within = mul-le-mul {n₁ = f} {m₁ = flowgate_size version r} {n₂ = most_flowgates} {m₂ = flowgate_size version most_resources} n.most_flowgates (omega (arith, n.most_resources))
 
-  pub case_size_most : case_size r z f ≤ largest_case_size
-  case_size_most = omega (arith, flowgates_within, n.most_resources, n.most_zones)
+  pub resources_within : r * resource_size version ≤ most_resources * resource_size version
+  resources_within = mul-le-mul {n₁ = r} {m₁ = resource_size version} {n₂ = most_resources} {m₂ = resource_size version} n.most_resources (le_refl (resource_size version))
 
-  pub certificate_size_most : certificate_size r z f ≤ largest_case_size
-  certificate_size_most = omega (arith, n.most_resources, n.most_zones, n.most_flowgates)
+  pub entries_within : r * entry_size version ≤ most_resources * entry_size version
+  entries_within = mul-le-mul {n₁ = r} {m₁ = entry_size version} {n₂ = most_resources} {m₂ = entry_size version} n.most_resources (le_refl (entry_size version))
 
-  -- the numbers of its flowgates
-  pub flowgate_numbers_within : f * (r + 1) ≤ most_flowgates * (most_resources + 1)
-  flowgate_numbers_within = mul-le-mul {n₁ = f} {m₁ = r + 1} {n₂ = most_flowgates} {m₂ = most_resources + 1} n.most_flowgates (omega (arith, n.most_resources))
+  pub case_size_most : case_size version r z f ≤ largest_case_size version
+  case_size_most = omega (arith, flowgates_within, resources_within, n.most_zones)
+
+-- of any version: so many bytes at most
+pub largest_case : (version : Version) → largest_case_size version ≤ 11738
+largest_case first = omega arith
+
+pub certificate_size_most : (version : Version) {r z f : ℕ} → CountsWithin r z f → certificate_size version r z f ≤ largest_case_size version
+certificate_size_most first n = omega (arith, n.most_resources, n.most_zones, n.most_flowgates)
+
+-- the numbers of its flowgates
+pub flowgate_numbers_within : {r z f : ℕ} → CountsWithin r z f → f * (r + 1) ≤ most_flowgates * (most_resources + 1)
+flowgate_numbers_within {r} {z} {f} n = mul-le-mul {n₁ = f} {m₁ = r + 1} {n₂ = most_flowgates} {m₂ = most_resources + 1} n.most_flowgates (omega (arith, n.most_resources))

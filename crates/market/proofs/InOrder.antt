@@ -10,11 +10,12 @@ use Rattle.arith.specs.Sums.{upto, across, total_of}
 use Rattle.arith.proofs.Lists.{across-append, across-one}
 use Rattle.arith.proofs.NaturalSums.{total-replicate}
 use Rattle.market.specs.Bytes.{u8_at, u32_at, i16_at, i32_at}
-use Rattle.market.specs.Case.{curves, energy_steps}
-use Rattle.market.specs.CaseFile.{head_size, factor_size, flowgate_head_size, flowgate_size, zone_place, resource_place, flowgate_place, resource_at, case_of}
+use Rattle.market.specs.Version.{Version, first, version_in}
+use Rattle.market.specs.Case.{zoned_curves, energy_steps}
+use Rattle.market.specs.CaseFile.{head_size, resource_size, factor_size, flowgate_head_size, flowgate_size, zone_place, resource_place, flowgate_place, resource_at, case_as, case_of}
 use Rattle.market.specs.Rows.{zone_row}
-use Rattle.market.specs.Certificate.{certificate_head_size, zone_prices_place, flowgate_price_place, amounts_place, amount_at, price_at, certificate_of}
-use Rattle.market.specs.Numbers.{Field, u8, u32, i16, i32, field_width, field_at, numbers_at, times, head_fields, curve_fields, resource_fields, flowgate_fields, case_fields, certificate_head_fields, entry_fields, certificate_fields, numbers_of, case_numbers, certificate_numbers}
+use Rattle.market.specs.Certificate.{certificate_head_size, entry_size, zone_prices_place, flowgate_price_place, amounts_place, amount_at, price_at, certificate_as, certificate_of}
+use Rattle.market.specs.Numbers.{Field, u8, u32, i16, i32, field_width, field_at, numbers_at, times, head_fields, zone_fields, resource_fields, flowgate_fields, case_fields, certificate_head_fields, entry_fields, certificate_fields, numbers_of, case_numbers, certificate_numbers}
 use Rattle.market.specs.FieldsInOrder.{FieldsInOrder, zone_figures, resource_figures, flowgate_figures, case_figures, resource_claims, certificate_figures}
 use Rattle.market.proofs.FileSizes.{times_width}
 
@@ -58,7 +59,7 @@ plain_fields : List Field
 plain_fields = replicate 6 u8 ++ (i32 ∷ replicate 16 u32)
 
 step_fields : (b : List ℕ) (p : ℕ) → numbers_at (times energy_steps (u32 ∷ i32 ∷ [])) b (p + 74)
-    ≡ across (λ j. pos ((resource_at b p).step_width j) ∷ (resource_at b p).step_price j ∷ []) (upto energy_steps)
+    ≡ across (λ j. pos ((resource_at first b p).step_width j) ∷ (resource_at first b p).step_price j ∷ []) (upto energy_steps)
 unfolding numbers_at field_at resource_at total_of
 step_fields b p =
     numbers_times energy_steps (u32 ∷ i32 ∷ []) b (p + 74)
@@ -67,75 +68,102 @@ step_fields b p =
     price : (j : ℕ) → p + 74 + j * 8 + 4 ≡ p + 78 + j * 8
     price j = omega arith
 
-resource_in_order : (b : List ℕ) (p : ℕ) → numbers_at resource_fields b p ≡ resource_figures (resource_at b p)
+resource_in_order : (version : Version) (b : List ℕ) (p : ℕ) → numbers_at (resource_fields version) b p ≡ resource_figures version (resource_at version b p)
 unfolding plain_fields field_at resource_at total_of shifted
-resource_in_order b p =
+resource_in_order first b p =
     numbers_append plain_fields (times energy_steps (u32 ∷ i32 ∷ [])) b p
     ∙ rw (from_start plain_fields b p, step_fields b p, add-zero p)
 
+resource_width : (version : Version) → total_of field_width (resource_fields version) ≡ resource_size version
+unfolding total_of times across upto
+resource_width first = refl
+
 -- ---- a flowgate's limit, and its factors
-flowgate_width : (r : ℕ) → total_of field_width (flowgate_fields r) ≡ flowgate_size r
+flowgate_width : (version : Version) (r : ℕ) → total_of field_width (flowgate_fields version r) ≡ flowgate_size version r
 unfolding total_of
-flowgate_width r = omega (arith, total-replicate field_width r i16)
+flowgate_width version r = omega (arith, total-replicate field_width r i16)
 
 factors_in_order : (r : ℕ) (b : List ℕ) (p : ℕ) → numbers_at (replicate r i16) b p ≡ map (λ i. i16_at b (p + i * factor_size)) (upto r)
 unfolding numbers_at field_at total_of
 factors_in_order r b p = rw (replicate_times r i16) (numbers_times r (i16 ∷ []) b p ∙ across-one (λ i. i16_at b (p + i * factor_size)) (upto r))
 
 -- ---- the case
-case_parts : (r z f : ℕ) (b : List ℕ) → numbers_at (case_fields r z f) b 5
-    ≡ numbers_at head_fields b 5
-    ++ (across (λ i. numbers_at curve_fields b (zone_place i)) (upto z)
-    ++ (across (λ i. numbers_at resource_fields b (resource_place z i)) (upto r) ++ across (λ g. numbers_at (flowgate_fields r) b (flowgate_place r z g)) (upto f)))
-unfolding case_fields total_of times across upto
-case_parts r z f b =
-    let zones = times z curve_fields in
-    let resources = times r resource_fields in
-    let flowgates = times f (flowgate_fields r) in
-    numbers_append head_fields (zones ++ (resources ++ flowgates)) b 5
-    ∙ rw (numbers_append zones (resources ++ flowgates) b head_size, numbers_times z curve_fields b head_size, times_width z curve_fields, numbers_append resources flowgates b (zone_place z), numbers_times r resource_fields b (zone_place z), times_width r resource_fields, numbers_times f (flowgate_fields r) b (resource_place z r), flowgate_width r)
+head_width : (version : Version) → 5 + total_of field_width (head_fields version) ≡ head_size version
+unfolding total_of
+head_width first = refl
 
-zone_in_order : (b : List ℕ) (i : ℕ) → numbers_at curve_fields b (zone_place i) ≡ zone_figures (case_of b) i
-unfolding field_at shifted case_of
-zone_in_order b i = from_start curve_fields b (zone_place i)
+case_parts : (version : Version) (r z f : ℕ) (b : List ℕ) → numbers_at (case_fields version r z f) b 5
+    ≡ numbers_at (head_fields version) b 5
+    ++ (across (λ i. numbers_at zone_fields b (zone_place version i)) (upto z)
+    ++ (across (λ i. numbers_at (resource_fields version) b (resource_place version z i)) (upto r) ++ across (λ g. numbers_at (flowgate_fields version r) b (flowgate_place version r z g)) (upto f)))
+unfolding case_fields total_of
+case_parts version r z f b =
+    let zones = times z zone_fields in
+    let resources = times r (resource_fields version) in
+    let flowgates = times f (flowgate_fields version r) in
+    numbers_append (head_fields version) (zones ++ (resources ++ flowgates)) b 5
+    ∙ ap (λ (at : ℕ). numbers_at (head_fields version) b 5 ++ numbers_at (zones ++ (resources ++ flowgates)) b at) (head_width version)
+    ∙ rw (numbers_append zones (resources ++ flowgates) b (head_size version), numbers_times z zone_fields b (head_size version), times_width z zone_fields, numbers_append resources flowgates b (zone_place version z), numbers_times r (resource_fields version) b (zone_place version z), times_width r (resource_fields version), resource_width version, numbers_times f (flowgate_fields version r) b (resource_place version z r), flowgate_width version r)
 
-flowgate_in_order : (b : List ℕ) (f : ℕ) → numbers_at (flowgate_fields (u8_at b 5)) b (flowgate_place (u8_at b 5) (u8_at b 6) f) ≡ flowgate_figures (case_of b) f
-unfolding numbers_at field_at case_of
-flowgate_in_order b f =
-    ap (λ (l : List ℤ). i32_at b (flowgate_place (u8_at b 5) (u8_at b 6) f) ∷ l) (factors_in_order (u8_at b 5) b (flowgate_place (u8_at b 5) (u8_at b 6) f + flowgate_head_size))
+zone_in_order : (version : Version) (b : List ℕ) (i : ℕ) → numbers_at zone_fields b (zone_place version i) ≡ zone_figures (case_as version b) i
+unfolding field_at shifted case_as
+zone_in_order version b i = from_start zone_fields b (zone_place version i)
+
+flowgate_in_order : (version : Version) (b : List ℕ) (f : ℕ) → numbers_at (flowgate_fields version (u8_at b 5)) b (flowgate_place version (u8_at b 5) (u8_at b 6) f) ≡ flowgate_figures (case_as version b) f
+unfolding numbers_at field_at case_as
+flowgate_in_order version b f =
+    ap (λ (l : List ℤ). i32_at b (flowgate_place version (u8_at b 5) (u8_at b 6) f) ∷ l) (factors_in_order (u8_at b 5) b (flowgate_place version (u8_at b 5) (u8_at b 6) f + flowgate_head_size version))
+
+-- as a file of any version
+case_as_in_order : (version : Version) (b : List ℕ) → numbers_at (case_fields version (u8_at b 5) (u8_at b 6) (u8_at b 7)) b 5 ≡ case_figures (case_as version b)
+unfolding case_as numbers_at field_at across upto
+case_as_in_order version b =
+    case_parts version (u8_at b 5) (u8_at b 6) (u8_at b 7) b
+    ∙ rw (fun_ext (zone_in_order version b), fun_ext (λ i. resource_in_order version b (resource_place version (u8_at b 6) i)), fun_ext (flowgate_in_order version b))
 
 case_in_order : (b : List ℕ) → case_numbers b ≡ case_figures (case_of b)
-unfolding numbers_of case_of numbers_at field_at across upto
-case_in_order b =
-    case_parts (u8_at b 5) (u8_at b 6) (u8_at b 7) b
-    ∙ rw (fun_ext (zone_in_order b), fun_ext (λ i. resource_in_order b (resource_place (u8_at b 6) i)), fun_ext (flowgate_in_order b))
+unfolding numbers_of
+case_in_order b = case_as_in_order (version_in b) b
 
 -- ---- the certificate
-certificate_parts : (r z f : ℕ) (q : List ℕ) → numbers_at (certificate_fields r z f) q 5
-    ≡ numbers_at certificate_head_fields q 5
-    ++ (across (λ i. numbers_at curve_fields q (zone_prices_place i)) (upto z)
-    ++ (across (λ g. numbers_at (u32 ∷ []) q (flowgate_price_place z g)) (upto f) ++ across (λ i. numbers_at entry_fields q (amounts_place z f i)) (upto r)))
+entry_width : (version : Version) → total_of field_width (entry_fields version) ≡ entry_size version
+unfolding total_of
+entry_width first = refl
+
+certificate_head_width : (version : Version) → 5 + total_of field_width (certificate_head_fields version) ≡ certificate_head_size version
+unfolding total_of
+certificate_head_width first = refl
+
+certificate_parts : (version : Version) (r z f : ℕ) (q : List ℕ) → numbers_at (certificate_fields version r z f) q 5
+    ≡ numbers_at (certificate_head_fields version) q 5
+    ++ (across (λ i. numbers_at zone_fields q (zone_prices_place version i)) (upto z)
+    ++ (across (λ g. numbers_at (u32 ∷ []) q (flowgate_price_place version z g)) (upto f) ++ across (λ i. numbers_at (entry_fields version) q (amounts_place version z f i)) (upto r)))
 unfolding certificate_fields total_of
-certificate_parts r z f q =
-    let zones = times z curve_fields in
+certificate_parts version r z f q =
+    let zones = times z zone_fields in
     let flowgates = times f (u32 ∷ []) in
-    let resources = times r entry_fields in
-    numbers_append certificate_head_fields (zones ++ (flowgates ++ resources)) q 5
-    ∙ rw (numbers_append zones (flowgates ++ resources) q certificate_head_size, numbers_times z curve_fields q certificate_head_size, times_width z curve_fields, numbers_append flowgates resources q (zone_prices_place z), numbers_times f (u32 ∷ []) q (zone_prices_place z), times_width f (u32 ∷ []), numbers_times r entry_fields q (flowgate_price_place z f))
+    let resources = times r (entry_fields version) in
+    numbers_append (certificate_head_fields version) (zones ++ (flowgates ++ resources)) q 5
+    ∙ ap (λ (at : ℕ). numbers_at (certificate_head_fields version) q 5 ++ numbers_at (zones ++ (flowgates ++ resources)) q at) (certificate_head_width version)
+    ∙ rw (numbers_append zones (flowgates ++ resources) q (certificate_head_size version), numbers_times z zone_fields q (certificate_head_size version), times_width z zone_fields, numbers_append flowgates resources q (zone_prices_place version z), numbers_times f (u32 ∷ []) q (zone_prices_place version z), times_width f (u32 ∷ []), numbers_times r (entry_fields version) q (flowgate_price_place version z f), entry_width version)
 
-zone_prices_in_order : (q : List ℕ) (i : ℕ) → numbers_at curve_fields q (zone_prices_place i) ≡ map (λ c. (certificate_of q).price (zone_row i c)) curves
-unfolding field_at shifted certificate_of price_at
-zone_prices_in_order q i = from_start curve_fields q (zone_prices_place i)
+zone_prices_in_order : (version : Version) (q : List ℕ) (i : ℕ) → numbers_at zone_fields q (zone_prices_place version i) ≡ map (λ c. (certificate_as version q).price (zone_row i c)) zoned_curves
+unfolding field_at shifted certificate_as price_at
+zone_prices_in_order version q i = from_start zone_fields q (zone_prices_place version i)
 
-claims_in_order : (q : List ℕ) (i : ℕ) → numbers_at entry_fields q (amounts_place (u8_at q 6) (u8_at q 7) i) ≡ resource_claims (certificate_of q) i
-unfolding field_at shifted certificate_of price_at amount_at
-claims_in_order q i = from_start entry_fields q (amounts_place (u8_at q 6) (u8_at q 7) i)
+claims_in_order : (version : Version) (q : List ℕ) (i : ℕ) → numbers_at (entry_fields version) q (amounts_place version (u8_at q 6) (u8_at q 7) i) ≡ resource_claims (certificate_as version q) i
+unfolding field_at shifted certificate_as price_at amount_at
+claims_in_order first q i = from_start (entry_fields first) q (amounts_place first (u8_at q 6) (u8_at q 7) i)
+
+certificate_as_in_order : (version : Version) (q : List ℕ) → numbers_at (certificate_fields version (u8_at q 5) (u8_at q 6) (u8_at q 7)) q 5 ≡ certificate_figures (certificate_as version q)
+unfolding certificate_as numbers_at field_at amount_at price_at
+certificate_as_in_order version q =
+    certificate_parts version (u8_at q 5) (u8_at q 6) (u8_at q 7) q
+    ∙ rw (fun_ext (zone_prices_in_order version q), fun_ext (claims_in_order version q), across-one (λ f. pos (u32_at q (flowgate_price_place version (u8_at q 6) f))) (upto (u8_at q 7)))
 
 certificate_in_order : (q : List ℕ) → certificate_numbers q ≡ certificate_figures (certificate_of q)
-unfolding numbers_of certificate_of numbers_at field_at amount_at price_at
-certificate_in_order q =
-    certificate_parts (u8_at q 5) (u8_at q 6) (u8_at q 7) q
-    ∙ rw (fun_ext (zone_prices_in_order q), fun_ext (claims_in_order q), across-one (λ f. pos (u32_at q (flowgate_price_place (u8_at q 6) f))) (upto (u8_at q 7)))
+unfolding numbers_of
+certificate_in_order q = certificate_as_in_order (version_in q) q
 
 pub fields_in_order : FieldsInOrder
 fields_in_order = record { case_in_order = case_in_order; certificate_in_order = certificate_in_order }

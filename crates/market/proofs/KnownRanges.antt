@@ -1,7 +1,8 @@
 -- What is known of a valid case, and of a certificate's prices past 12, as inequalities of numbers.
 use Prim.Native.Nat.{ℕ, ◌<◌, ◌≤◌}
+use lib.Dec.{T}
 use Rattle.arith.proofs.Magnitudes.{Size}
-use Rattle.market.specs.Case.{Case, Resource, Curve, Reserve, width_of, energy_steps, curve_steps}
+use Rattle.market.specs.Case.{Case, Resource, Curve, has_curve, zoned, Reserve, width_of, energy_steps, curve_steps}
 use Rattle.market.specs.Rows.{Row}
 use Rattle.market.specs.Certificate.{Prices, highest_price}
 use Rattle.market.specs.Sizes.{most_power, most_ramp, most_cents, most_demand, most_curve_width, most_zone_requirement, most_flowgate_limit, most_factor}
@@ -55,9 +56,9 @@ pub record CaseRanges (c : Case) : Type 0 where
   pub zones_from : 1 ≤ c.zones
   pub demand_to : c.demand ≤ most_demand
   pub reserve : (p : Reserve) → ReserveRanges c p
-  pub curve_width : (k : Curve) (j : ℕ) → j < curve_steps → c.curve_width k j ≤ most_curve_width
-  pub curve_price : (k : Curve) (j : ℕ) → j < curve_steps → c.curve_price k j ≤ most_cents
-  pub zone_requirement : (z : ℕ) (k : Curve) → z < c.zones → c.zone_requirement z k ≤ most_zone_requirement
+  pub curve_width : (k : Curve) → T (has_curve c.version k) → (j : ℕ) → j < curve_steps → c.curve_width k j ≤ most_curve_width
+  pub curve_price : (k : Curve) → T (has_curve c.version k) → (j : ℕ) → j < curve_steps → c.curve_price k j ≤ most_cents
+  pub zone_requirement : (z : ℕ) (k : Curve) → z < c.zones → T (zoned k) → c.zone_requirement z k ≤ most_zone_requirement
   pub resource : (i : ℕ) → i < c.resources → ResourceRanges c.zones (c.resource i)
   pub flowgate_limit : (f : ℕ) → f < c.flowgates → Size (c.flowgate_limit f) most_flowgate_limit
   pub shift_factor : (f i : ℕ) → f < c.flowgates → i < c.resources → Size (c.shift_factor f i) most_factor

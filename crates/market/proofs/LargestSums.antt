@@ -1,36 +1,44 @@
--- The figures of sums are those computed over the largest case; and figures that hold of each row or quantity.
+-- The figures of sums are those computed over the most rows and quantities; and figures that hold of each row or quantity.
 use mathlib.Core.Path.{◌≡◌, refl}
 use Prim.Native.Nat.{◌+◌, ◌*◌, ◌≤◌}
 use native.Mathlib.Omega.{arith}
 use Rattle.arith.specs.Sums.{total_of, upto, across}
-use Rattle.market.specs.Case.{Case}
-use Rattle.market.specs.UpperBounds.{energy, regulation, contingency, on_line_short_term, off_line_short_term, Quantity, cleared_quantity, provided_quantity, quantities}
-use Rattle.market.specs.Rows.{Row, balance_row, market_row, zone_row, flowgate_row, limit_row, Limit, max_with_reserve, max_with_short_term, minimum, high, low, rows}
+use Rattle.market.specs.UpperBounds.{energy, regulation, contingency, on_line_short_term, off_line_short_term, ramping_up, ramping_down, charging, Quantity, cleared_quantity, provided_quantity}
+use Rattle.market.specs.Rows.{Row, balance_row, market_row, zone_row, flowgate_row, limit_row, Limit, max_with_reserve, max_with_short_term, minimum, high, low}
 use Rattle.market.specs.Certificate.{highest_price}
-use Rattle.market.proofs.LargestCase.{largest}
+use Rattle.market.proofs.LargestCase.{most_rows, most_quantities}
 use Rattle.market.specs.Sizes.{most_demand, most_factor, most_limit, most_coefficient, most_right, most_amount, most_price, most_net, most_amounts, most_taken, most_cost, most_products, most_row_terms, most_charge}
 
--- ---- sums over the largest case
-module _ (c : Case) where
-  pub amounts_figure : total_of most_amount (quantities (largest c)) ≡ most_amounts
-  unfolding total_of quantities upto across
-  amounts_figure = refl
+-- ---- sums over the most rows and quantities
+pub amounts_figure : total_of most_amount most_quantities ≡ most_amounts
+unfolding total_of upto across
+amounts_figure = refl
 
-  pub cost_figure : total_of (λ q. most_price * most_amount q) (quantities (largest c)) ≡ most_cost
-  unfolding total_of quantities upto across
-  cost_figure = refl
+-- how many places 13 can name
+pub places_figure : total_of (λ (q : Quantity). 1) most_quantities ≡ 516
+unfolding total_of upto across
+places_figure = refl
 
-  pub products_figure : total_of (λ q. most_net q * most_amount q) (quantities (largest c)) ≡ most_products
-  unfolding total_of quantities upto across
-  products_figure = refl
+-- and 14
+pub row_numbers_figure : total_of (λ (row : Row). 1) most_rows ≡ 369
+unfolding total_of upto across
+row_numbers_figure = refl
 
-  pub row_terms_figure : total_of (λ r. highest_price r * most_right r) (rows (largest c)) ≡ most_row_terms
-  unfolding total_of rows upto across
-  row_terms_figure = refl
+pub cost_figure : total_of (λ q. most_price * most_amount q) most_quantities ≡ most_cost
+unfolding total_of upto across
+cost_figure = refl
 
-  pub taken_figure : total_of (λ r. most_price) (rows (largest c)) ≡ most_taken
-  unfolding total_of rows upto across
-  taken_figure = refl
+pub products_figure : total_of (λ q. most_net q * most_amount q) most_quantities ≡ most_products
+unfolding total_of upto across
+products_figure = refl
+
+pub row_terms_figure : total_of (λ r. highest_price r * most_right r) most_rows ≡ most_row_terms
+unfolding total_of upto across
+row_terms_figure = refl
+
+pub taken_figure : total_of (λ r. most_price) most_rows ≡ most_taken
+unfolding total_of upto across
+taken_figure = refl
 
 -- ---- figures of one row or quantity
 -- a flowgate's price is in cents, as its factors are in thousandths
@@ -70,3 +78,6 @@ charge_figure (provided_quantity i regulation) = omega arith
 charge_figure (provided_quantity i contingency) = omega arith
 charge_figure (provided_quantity i on_line_short_term) = omega arith
 charge_figure (provided_quantity i off_line_short_term) = omega arith
+charge_figure (provided_quantity i ramping_up) = omega arith
+charge_figure (provided_quantity i ramping_down) = omega arith
+charge_figure (provided_quantity i charging) = omega arith

@@ -1,5 +1,6 @@
 pub mod Computed
 pub mod CurveNumbers
+pub mod Versions
 pub mod Grounds
 pub mod GroundTests
 pub mod Passed
@@ -29,6 +30,7 @@ pub mod CheckInWords
 pub mod LeastAndLargest
 pub mod OneOfThree
 pub mod AvailabilityTests
+pub mod NaturalLimits
 pub mod LimitsInWords
 pub mod BoundsInWords
 pub mod AvailabilityInWords
@@ -54,3 +56,4 @@ pub mod InOrder
 pub mod FirstFailing
 pub mod StatusBits
 pub mod SizesInWords
+pub mod FirstVersion

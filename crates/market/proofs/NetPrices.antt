@@ -4,12 +4,13 @@ use mathlib.Core.Bool.{Bool, true, false, cond}
 use mathlib.Core.List.{List}
 use Prim.Native.Nat.{ℕ}
 use native.Mathlib.Omega.{arith}
+use lib.Dec.{T}
 use lib.IntN.{ℤ, pos, neg_ℤ, ◌+ℤ◌, ◌*ℤ◌, ◌-ℤ◌, *ℤ-zero}
 use Rattle.arith.specs.Sums.{sum_of, upto}
 use Rattle.arith.proofs.Order.{*ℤ-neg}
 use Rattle.arith.proofs.Linear.{sorted, count}
 use Rattle.arith.proofs.Sums.{sum-ext, sum-neg, sum-zero}
-use Rattle.market.specs.Case.{Case, Curve, curves, operating, regulating_plus_spinning, regulating, short_term}
+use Rattle.market.specs.Case.{Case, Curve, has_curve, zoned_curves, operating, regulating_plus_spinning, regulating, short_term}
 use Rattle.market.specs.UpperBounds.{energy, regulation, contingency, on_line_short_term, off_line_short_term, cleared_quantity}
 use Rattle.market.specs.Rows.{balance_row, market_row, zone_row, flowgate_row, limit_row, max_with_reserve, max_with_short_term, minimum, high, low, limits, none, entries, coefficient, is_spinning}
 use Rattle.market.specs.Certificate.{Prices}
@@ -86,24 +87,24 @@ module _ (c : Case) (y : Prices) where
   no_terms : {A : Type 0} (p : A → ℤ) (xs : List A) → sum_of (λ a. p a *ℤ none) xs ≡ pos 0
   no_terms p xs = sum-ext (λ a. p a *ℤ none) (λ a. pos 0) (λ a. *-none (p a)) xs ∙ sum-zero xs
 
-  cleared_taken : (k : Curve) → row_value c y (cleared_quantity k) ≡ neg_ℤ (y (market_row k))
+  cleared_taken : (k : Curve) → T (has_curve c.version k) → row_value c y (cleared_quantity k) ≡ neg_ℤ (y (market_row k))
   unfolding row_value coefficient
-  cleared_taken k =
+  cleared_taken k t =
       rows_sum c (λ r. y r *ℤ coefficient c r (cleared_quantity k))
-      ∙ rw (*-none (y balance_row), cleared_price (λ l. y (market_row l)) k, zones, no_terms (λ f. y (flowgate_row f)) (upto c.flowgates), own) (ring (neg_ℤ (y (market_row k))))
+      ∙ rw (*-none (y balance_row), cleared_price c.version (λ l. y (market_row l)) k t, zones, no_terms (λ f. y (flowgate_row f)) (upto c.flowgates), own) (ring (neg_ℤ (y (market_row k))))
     where
-      zones : sum_of (λ z. sum_of (λ l. y (zone_row z l) *ℤ none) curves) (upto c.zones) ≡ pos 0
-      zones = sum-ext _ (λ z. pos 0) (λ z. no_terms (λ l. y (zone_row z l)) curves) (upto c.zones) ∙ sum-zero (upto c.zones)
+      zones : sum_of (λ z. sum_of (λ l. y (zone_row z l) *ℤ none) zoned_curves) (upto c.zones) ≡ pos 0
+      zones = sum-ext _ (λ z. pos 0) (λ z. no_terms (λ l. y (zone_row z l)) zoned_curves) (upto c.zones) ∙ sum-zero (upto c.zones)
 
-      own : sum_of (λ i. sum_of (λ l. y (limit_row i l) *ℤ none) limits) (upto c.resources) ≡ pos 0
-      own = sum-ext _ (λ i. pos 0) (λ i. no_terms (λ l. y (limit_row i l)) limits) (upto c.resources) ∙ sum-zero (upto c.resources)
+      own : sum_of (λ i. sum_of (λ l. y (limit_row i l) *ℤ none) (limits c.version)) (upto c.resources) ≡ pos 0
+      own = sum-ext _ (λ i. pos 0) (λ i. no_terms (λ l. y (limit_row i l)) (limits c.version)) (upto c.resources) ∙ sum-zero (upto c.resources)
 
       ring : (a : ℤ) → pos 0 +ℤ (a +ℤ (pos 0 +ℤ (pos 0 +ℤ pos 0))) ≡ a
       ring a = simp sorted (simp count (omega arith))
 
-  curve_net : (k : Curve) (j : ℕ) → net_price c y (priced_curve_step k j) ≡ y (market_row k) -ℤ pos 1000 *ℤ pos (c.curve_price k j)
+  curve_net : (k : Curve) → T (has_curve c.version k) → (j : ℕ) → net_price c y (priced_curve_step k j) ≡ y (market_row k) -ℤ pos 1000 *ℤ pos (c.curve_price k j)
   unfolding net_price quantity_of offer
-  curve_net k j = rw (cleared_taken k) (ring (pos (c.curve_price k j)) (y (market_row k)))
+  curve_net k t j = rw (cleared_taken k t) (ring (pos (c.curve_price k j)) (y (market_row k)))
     where
       ring : (p a : ℤ) → pos 1000 *ℤ neg_ℤ p -ℤ neg_ℤ a ≡ a -ℤ pos 1000 *ℤ p
       ring p a = simp sorted (simp count (omega arith))

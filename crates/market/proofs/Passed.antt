@@ -55,14 +55,14 @@ form_tests c q k =
     test (length_right least_certificate_size q) CertificateLength
     ∷ test (version_right q) CertificateVersion
     ∷ test (same_counts c k) CountsDiffer
-    ∷ test (eqb (length q) (certificate_size c.resources c.zones c.flowgates)) CertificateSize
+    ∷ test (eqb (length q) (certificate_size c.version c.resources c.zones c.flowgates)) CertificateSize
     ∷ []
 
 pub record FormPassed (c : Case) (q : List ℕ) (k : Certificate) : Type 0 where
   pub length_right : T (length_right least_certificate_size q)
   pub version_right : T (version_right q)
   pub same_counts : T (same_counts c k)
-  pub size_right : T (eqb (length q) (certificate_size c.resources c.zones c.flowgates))
+  pub size_right : T (eqb (length q) (certificate_size c.version c.resources c.zones c.flowgates))
 
 pub form_passed : (c : Case) (q : List ℕ) (k : Certificate) → AllClear (form_grounds c q k) → FormPassed c q k
 unfolding form_grounds
@@ -102,26 +102,26 @@ unfolding case_grounds form_grounds grounds_to11 grounds_to12
 tests_to_12 b q = refl
 
 -- ---- a list of numbers to be written: 16, 3, 16
-abbrev pub list_tests : FieldsOf → List ℤ → List Test
-list_tests fields vs =
+abbrev pub list_tests : FieldsOf → ℕ → List ℤ → List Test
+list_tests fields v vs =
     test (leb 3 (length vs)) NumberList
     ∷ test (counts_in_range vs) Counts
-    ∷ test (numbers_fit (fields_for fields vs) vs) NumberList
+    ∷ test (numbers_fit (fields_for fields v vs) vs) NumberList
     ∷ []
 
-pub record ListPassed (fields : FieldsOf) (vs : List ℤ) : Type 0 where
+pub record ListPassed (fields : FieldsOf) (v : ℕ) (vs : List ℤ) : Type 0 where
   pub three_numbers : T (leb 3 (length vs))
   pub counts_in_range : T (counts_in_range vs)
-  pub numbers_fit_lem : T (numbers_fit (fields_for fields vs) vs)
+  pub numbers_fit_lem : T (numbers_fit (fields_for fields v vs) vs)
 
-module _ (fields : FieldsOf) (vs : List ℤ) where
-  pub list_passed : AllClear (list_grounds fields vs) → ListPassed fields vs
+module _ (fields : FieldsOf) (v : ℕ) (vs : List ℤ) where
+  pub list_passed : AllClear (list_grounds fields v vs) → ListPassed fields v vs
   unfolding list_grounds
-  list_passed h = named (tests_pass (list_tests fields vs) h)
+  list_passed h = named (tests_pass (list_tests fields v vs) h)
     where
-      named : AllPass (list_tests fields vs) → ListPassed fields vs
+      named : AllPass (list_tests fields v vs) → ListPassed fields v vs
       named (three, (counts, (fit, none))) = record { three_numbers = three; counts_in_range = counts; numbers_fit_lem = fit }
 
-  pub list_clear : ListPassed fields vs → AllClear (list_grounds fields vs)
+  pub list_clear : ListPassed fields v vs → AllClear (list_grounds fields v vs)
   unfolding list_grounds
-  list_clear h = tests_clear (list_tests fields vs) (h.three_numbers, (h.counts_in_range, (h.numbers_fit_lem, tt)))
+  list_clear h = tests_clear (list_tests fields v vs) (h.three_numbers, (h.counts_in_range, (h.numbers_fit_lem, tt)))

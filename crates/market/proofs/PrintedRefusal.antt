@@ -11,6 +11,7 @@ use lib.Dec.{leb}
 use lib.ListN.{length, get_or, length-append}
 use borrow.Author.Tests.{le-leb}
 use Rattle.arith.specs.Sums.{all}
+use Rattle.arith.proofs.NaturalSums.{total_same}
 use Rattle.market.specs.declared.Refusal.{Refusal}
 use Rattle.market.specs.declared.Refusal.TheVariants.{AboveBound, RowBroken, InputLength}
 use Rattle.market.specs.declared.Valuation.{Valuation}
@@ -24,10 +25,10 @@ use Rattle.market.specs.Outcome.{Valid, case_grounds, form_grounds, certificate_
 use Rattle.market.specs.Program.{case_in, certificate_in, most_input, input_ground, program_grounds, refusal_line, report, printed, printed_of}
 use Rattle.market.specs.RefusedExactly.{Exactly, FirstAt, PlacesExactly, accepted_text}
 use Rattle.market.proofs.Grounds.{none_holds, all_clear, first_holds, holds_first}
-use Rattle.market.proofs.LargestCase.{CountRanges}
+use Rattle.market.proofs.LargestCase.{CountRanges, rows_most, quantities_most}
+use Rattle.market.proofs.LargestSums.{places_figure, row_numbers_figure}
 use Rattle.market.proofs.Passed.{case_passed}
 use Rattle.market.proofs.Ranges.{count_ranges}
-use Rattle.market.proofs.Lengths.{quantity_count, row_count_lem}
 use Rattle.market.proofs.RefusedPlaces.{above_valid, broken_valid, above_bound_at, row_broken_at, places}
 use Rattle.market.proofs.RefusalText.{twenty_digits, line_same, of_place}
 
@@ -44,14 +45,14 @@ module _ (b q : List ℕ) where
   unfolding all case_grounds form_grounds certificate_grounds
   bound_place p h =
       let t = (above_bound_at b q [] tt tt p).0 h in
-      omega (arith, at_most (quantities (case_of b)) p t.first_above, quantity_count (case_of b), (counted (above_valid b q p t)).most_resources)
+      omega (arith, at_most (quantities (case_of b)) p t.first_above, total_same 1 (quantities (case_of b)), quantities_most (case_of b) (counted (above_valid b q p t)) (λ a. 1), places_figure)
 
   row_place : (p : ℕ) → FirstHolds (grounds b q) (RowBroken p) → p < twenty_digits
   unfolding all case_grounds form_grounds certificate_grounds
   row_place p h =
       let t = (row_broken_at b q [] tt tt p).0 h in
       let n = counted (broken_valid b q p t) in
-      omega (arith, at_most (rows (case_of b)) p t.first_broken, row_count_lem (case_of b), n.most_resources, n.most_zones, n.most_flowgates)
+      omega (arith, at_most (rows (case_of b)) p t.first_broken, total_same 1 (rows (case_of b)), rows_most (case_of b) n (λ row. 1), row_numbers_figure)
 
   place_most : (r : Refusal) → first_of (grounds b q) ≡ holds r → place_of r < twenty_digits
   place_most r h =

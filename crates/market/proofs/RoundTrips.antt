@@ -3,15 +3,16 @@ use Rattle.std.specs.Prelude.{Ok}
 use mathlib.Core.Path.{◌≡◌, refl}
 use mathlib.Core.List.{List, [], ◌∷◌, ◌++◌}
 use Prim.Native.Nat.{ℕ, ◌≤◌}
-use native.Mathlib.Nat.{mul-le-mul}
 use native.Mathlib.Omega.{arith}
-use lib.Dec.{leb, le→leb}
+use lib.Dec.{leb, le→leb, eqb→eq}
 use lib.IntN.{ℤ}
 use lib.ListN.{length, take, drop}
 use lib.Seq.{take-append_seam}
 use Rattle.arith.proofs.Lists.{each_join, each_split}
 use Rattle.market.specs.declared.Refusal.TheVariants.{CaseLength, CaseVersion, CaseSize, CertificateLength, CertificateVersion, CertificateSize, BufferShort}
-use Rattle.market.specs.CaseFile.{least_case_size, case_of, case_size}
+use Rattle.market.specs.Bytes.{u8_at}
+use Rattle.market.specs.Version.{Version, written_version}
+use Rattle.market.specs.CaseFile.{least_case_size, case_as, case_size}
 use Rattle.market.specs.CaseCheck.{case_size_right}
 use Rattle.market.specs.Certificate.{least_certificate_size, certificate_size}
 use Rattle.market.specs.Refusals.{Finding, clear, first_of, answered, buffer_after, AllClear}
@@ -19,7 +20,7 @@ use Rattle.market.specs.Outcome.{case_grounds, room}
 use Rattle.market.specs.Numbers.{case_fields, certificate_fields, numbers_of, case_numbers, certificate_numbers, certificate_file_grounds, case_file, field_grounds, read_case_grounds, read_certificate_grounds, read_case, read_certificate, read_case_buffer, read_certificate_buffer, file_for, list_grounds, write_case_grounds, write_certificate_grounds, write_case, write_certificate, write_case_buffer, write_certificate_buffer}
 use Rattle.market.specs.RoundTrips.{RoundTrip, RoundTrips}
 use Rattle.market.proofs.Grounds.{answered_ok, none_holds, all_clear, clear_unless}
-use Rattle.market.proofs.FileSizes.{case_count, certificate_count, case_fills, certificate_fills}
+use Rattle.market.proofs.FileSizes.{first_case_count, first_certificate_count, case_fills, certificate_fills, case_size_most, certificate_size_most, largest_case}
 use Rattle.market.proofs.FileContents.{CountsFirst}
 use Rattle.market.proofs.FileTrips.{FileKind, Right, file_grounds, number_grounds, clear_right, written_first, written_valid, valid_written}
 
@@ -50,33 +51,41 @@ module _ (K : FileKind) where
   abbrev numbers : List ℕ → List ℤ
   numbers = numbers_of K.fields
 
+  -- as a file of the version that is written
   abbrev file : List ℤ → List ℕ
-  file = file_for K.fields
+  file = file_for K.fields written_version
+
+  abbrev listed : List ℤ → List Finding
+  listed = number_grounds K written_version
+
+  -- a valid file is of that version
+  its_version : (b : List ℕ) → AllClear (file_grounds K b) → u8_at b 4 ≡ written_version
+  its_version b valid = eqb→eq (u8_at b 4) written_version (clear_right K b valid).version
 
   round_trip : RoundTrip (file_grounds K) numbers
       (λ b n. answered (length (numbers b)) (first_of (handing (file_grounds K b) (numbers b) n)))
       (λ b old. buffer_after (first_of (handing (file_grounds K b) (numbers b) (length old))) (numbers b) old)
-      (λ vs n. answered (length (file vs)) (first_of (handing (number_grounds K vs) (file vs) n)))
-      (λ vs old. buffer_after (first_of (handing (number_grounds K vs) (file vs) (length old))) (file vs) old)
+      (λ vs n. answered (length (file vs)) (first_of (handing (listed vs) (file vs) n)))
+      (λ vs old. buffer_after (first_of (handing (listed vs) (file vs) (length old))) (file vs) old)
   round_trip =
       record {
         written_read = λ vs out n e buffer l.
-            let w = received (number_grounds K vs) (file vs) out n e in
-            let v = written_valid K vs w.0 in
+            let w = received (listed vs) (file vs) out n e in
+            let v = written_valid K written_version tt vs w.0 in
             rw w.1 (handed (file_grounds K (file vs)) (numbers (file vs)) vs buffer v.1 v.0 l);
         read_written = λ b bytes valid out l.
-            let v = valid_written K b bytes valid in
-            handed (number_grounds K (numbers b)) (file (numbers b)) b out v.1 v.0 l;
+            let v = rw (its_version b valid) at (valid_written K b bytes valid) in
+            handed (listed (numbers b)) (file (numbers b)) b out v.1 v.0 l;
       }
 
 -- ---- the two kinds
-case_counts_first : (r z f : ℕ) → CountsFirst (case_fields r z f)
+case_counts_first : (version : Version) (r z f : ℕ) → CountsFirst (case_fields version r z f)
 unfolding case_fields
-case_counts_first r z f = refl
+case_counts_first version r z f = refl
 
-pub certificate_counts_first : (r z f : ℕ) → CountsFirst (certificate_fields r z f)
+pub certificate_counts_first : (version : Version) (r z f : ℕ) → CountsFirst (certificate_fields version r z f)
 unfolding certificate_fields
-certificate_counts_first r z f = refl
+certificate_counts_first version r z f = refl
 
 abbrev cases : FileKind
 cases =
@@ -90,8 +99,8 @@ cases =
       further = field_grounds;
       counts_first = case_counts_first;
       fills = case_fills;
-      at_least = λ r z f. omega arith;
-      at_most = λ r z f a b c. omega (arith, mul-le-mul c a);
+      at_least = λ version r z f. omega arith;
+      at_most = λ version n. omega (arith, case_size_most version n, largest_case version);
     }
 
 abbrev pub certificates : FileKind
@@ -106,18 +115,18 @@ certificates =
       further = λ b. [];
       counts_first = certificate_counts_first;
       fills = certificate_fills;
-      at_least = λ r z f. omega arith;
-      at_most = λ r z f a b c. omega arith;
+      at_least = λ version r z f. omega arith;
+      at_most = λ version n. omega (arith, certificate_size_most version n, largest_case version);
     }
 
 case_trip : RoundTrip case_grounds case_numbers read_case read_case_buffer write_case write_case_buffer
-unfolding case_of case_size_right case_grounds file_grounds number_grounds list_grounds read_case_grounds read_case read_case_buffer write_case_grounds write_case write_case_buffer
+unfolding case_as case_size_right case_grounds file_grounds number_grounds list_grounds read_case_grounds read_case read_case_buffer write_case_grounds write_case write_case_buffer
 case_trip = round_trip cases
 
 -- the file of numbers that a list may hold is refused, if at all, on 5, 6 or 7
-pub case_filed : (vs : List ℤ) → AllClear (list_grounds case_fields vs) → (first_of (case_grounds (case_file vs)) ≡ first_of (field_grounds (case_file vs))) × (case_numbers (case_file vs) ≡ vs)
-unfolding case_of case_size_right case_grounds file_grounds
-case_filed vs h = written_first cases vs h
+pub case_filed : (vs : List ℤ) → AllClear (list_grounds case_fields written_version vs) → (first_of (case_grounds (case_file vs)) ≡ first_of (field_grounds (case_file vs))) × (case_numbers (case_file vs) ≡ vs)
+unfolding case_as case_size_right case_grounds file_grounds
+case_filed vs h = written_first cases written_version tt vs h
 
 certificate_trip : RoundTrip certificate_file_grounds certificate_numbers read_certificate read_certificate_buffer write_certificate write_certificate_buffer
 unfolding certificate_file_grounds file_grounds number_grounds list_grounds read_certificate_grounds read_certificate read_certificate_buffer write_certificate_grounds write_certificate write_certificate_buffer
@@ -133,8 +142,8 @@ round_trips =
     record {
       case_file = case_trip;
       certificate_file = certificate_trip;
-      case_count = case_count;
-      certificate_count = certificate_count;
+      case_count = first_case_count;
+      certificate_count = first_certificate_count;
       case_fills = case_fills;
       certificate_fills = certificate_fills;
     }

@@ -37,7 +37,7 @@ module _ (c : Case) (h : CaseRanges c) where
           arith,
           priced_most c h (λ q. most_price) (λ p. nat_abs (pos 1000 *ℤ (offer c p *ℤ pos (part c x p)))) (λ p m. (cost_term p m).le),
           quantities_most c h.counts (λ q. most_price * most_amount q),
-          cost_figure c,
+          cost_figure,
         )
 
     pub cost_size : Size (cost c x) most_cost
@@ -46,7 +46,7 @@ module _ (c : Case) (h : CaseRanges c) where
 
     -- left sides and slacks
     amounts_most : total_of most_amount (quantities c) ≤ most_amounts
-    amounts_most = omega (arith, quantities_most c h.counts most_amount, amounts_figure c)
+    amounts_most = omega (arith, quantities_most c h.counts most_amount, amounts_figure)
 
     pub amount_of : (q : Quantity) → QuantityOf c q → x q ≤ most_amount q
     amount_of q m = omega (arith, at_quantity c (λ q. x q ≤ upper_bound c q) b q m, amount_most c h q m)

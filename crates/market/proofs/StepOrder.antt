@@ -86,6 +86,6 @@ energy_test r =
 pub steps_rule_test : (c : Case) → Decides (steps_rule c) (StepsKept c)
 unfolding steps_rule
 steps_rule_test c =
-    reworded (both (curves_test (curve_test c)) (below_test (λ i. energy_test (c.resource i)) c.resources))
+    reworded (both (curves_test c.version (curve_test c)) (below_test (λ i. energy_test (c.resource i)) c.resources))
     (λ h. record { curve_steps = h.0; energy_steps = λ i l. (h.1 i l).0; energy_widths = λ i l. (h.1 i l).1 })
     (λ s. (s.curve_steps, (λ i l. (s.energy_steps i l, s.energy_widths i l))))

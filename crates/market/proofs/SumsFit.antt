@@ -8,8 +8,9 @@ use lib.IntN.{pos, nat_abs}
 use Rattle.arith.specs.Sums.{size_of, upto, Each}
 use Rattle.arith.proofs.Lists.{each-any, each_join, each_map, each-upto}
 use Rattle.arith.proofs.Magnitudes.{Size, size-sub}
-use Rattle.arith.proofs.NaturalSums.{total-mono-all, total_same}
-use Rattle.market.specs.Case.{Case, Curve, curves, Reserve, reserves, energy_steps, curve_steps}
+use Rattle.arith.proofs.NaturalSums.{total_mono, total_same}
+use lib.Dec.{T}
+use Rattle.market.specs.Case.{Case, Curve, zoned_curves, zoned, Reserve, reserves, energy_steps, curve_steps}
 use Rattle.market.specs.CaseFile.{case_of}
 use Rattle.market.specs.UpperBounds.{Schedule}
 use Rattle.market.specs.Rows.{Row, balance_row, market_row, zone_row, rows, Bounded}
@@ -18,6 +19,7 @@ use Rattle.market.specs.Cost.{priced, quantity_of}
 use Rattle.market.specs.Charges.{gap, row_charge, priced_charge, charges}
 use Rattle.market.specs.Prices.{zone_prices}
 use Rattle.market.specs.Fits.{Fits64, TermsFit, SumsFit, SumsAtMost, SumsFitTheorem}
+use Rattle.market.proofs.Versions.{each_zoned, each_curve, zoned_is_curve}
 use Rattle.market.proofs.Families.{quantity_of_lem, each_row, each_priced}
 use Rattle.market.specs.Sizes.{most_price, most_gap}
 use Rattle.market.proofs.Ranges.{CaseRanges, PriceRanges, valid_ranges, price_ranges, bounded}
@@ -37,9 +39,9 @@ module _ (c : Case) (h : CaseRanges c) (y : Prices) (p : PriceRanges c y) (x : S
       (each_map _ (row_charge c x y) (rows c) (each_row c (λ r. Fits64 (row_charge c x y r)) (λ r m. omega (arith, row_charge_size c h y p x b r m))))
       (each_map _ (priced_charge c x y) (priced c) (each_priced c (λ q. Fits64 (priced_charge c x y q)) (λ q m. omega (arith, priced_charge_size c h y p x b q m))))
 
-  -- a price for each curve
-  curve_prices : (f : Curve → Row) → ((k : Curve) → Size (y (f k)) most_price) → size_of (λ k. y (f k)) curves ≤ 4 * most_price
-  curve_prices f m = omega (arith, total-mono-all (λ k. nat_abs (y (f k))) (λ k. most_price) (λ k. (m k).le) curves, total_same most_price curves)
+  -- a price for each curve of a zone
+  curve_prices : (f : Curve → Row) → ((k : Curve) → T (zoned k) → Size (y (f k)) most_price) → size_of (λ k. y (f k)) zoned_curves ≤ 4 * most_price
+  curve_prices f m = omega (arith, total_mono (λ k. nat_abs (y (f k))) (λ k. most_price) zoned_curves (each_zoned _ (λ k l. (m k l).le)), total_same most_price zoned_curves)
 
   zone_fits : (z : ℕ) → z < c.zones → Each (λ v. Fits64 v) (zone_prices y z)
   zone_fits z m =
@@ -58,7 +60,7 @@ module _ (c : Case) (h : CaseRanges c) (y : Prices) (p : PriceRanges c y) (x : S
         high_fits = each-upto _ c.resources (λ i m. omega (arith, (h.resource i m).initial_to, (h.resource i m).ramp_up));
         low_terms = each-upto _ c.resources (λ i m. omega (arith, (h.resource i m).initial_to, (h.resource i m).ramp_down));
         energy_widths = each-upto _ c.resources (λ i m. omega (arith, energy_widths c h i m));
-        curve_widths = each-any (λ k. TermsFit (λ j. pos (c.curve_width k j)) (upto curve_steps)) curves (λ k. omega (arith, curve_widths c h k));
+        curve_widths = each_curve c.version (λ k. TermsFit (λ j. pos (c.curve_width k j)) (upto curve_steps)) (λ k m. omega (arith, curve_widths c h k m));
         ramp_products = each-any RampsFit reserves (λ p. each-upto _ c.resources (λ i m. omega (arith, mul-le-mul (h.resource i m).ramp_rate (h.reserve p).minutes_to)));
         share_products = each-any (λ p. Fits64 (pos (c.share p * c.requirement p))) reserves (λ p. omega (arith, mul-le-mul (h.reserve p).share_to (h.reserve p).requirement_to));
         cost_terms = omega (arith, cost_terms_most c h x b);
@@ -77,7 +79,7 @@ module _ (c : Case) (h : CaseRanges c) (y : Prices) (p : PriceRanges c y) (x : S
         charge_fits = charges_fit;
         lmp_terms = each-upto _ c.resources (λ i m. omega (arith, p.price balance_row tt, flowgates_most c y h p i m));
         lmp_fits = each-upto _ c.resources (λ i m. omega (arith, lmp_size c y h p i m));
-        zone_price_terms = each-upto _ c.zones (λ z m. omega (arith, curve_prices market_row (λ k. p.price (market_row k) tt), curve_prices (zone_row z) (λ k. p.price (zone_row z k) m)));
+        zone_price_terms = each-upto _ c.zones (λ z m. omega (arith, curve_prices market_row (λ k l. p.price (market_row k) (zoned_is_curve c.version k l)), curve_prices (zone_row z) (λ k l. p.price (zone_row z k) (m, l))));
         zone_prices_fit = each-upto _ c.zones zone_fits;
       }
 

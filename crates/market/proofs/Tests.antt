@@ -13,9 +13,11 @@ use Rattle.arith.proofs.Order.{≤ℤ-antisymm}
 use Rattle.arith.proofs.Lists.{each_imp, each-upto, at_upto}
 use Rattle.arith.proofs.AllTests.{and_split, and_join, all-each, each_all}
 use Rattle.market.specs.Bytes.{within, within_ℤ, either_way}
-use Rattle.market.specs.Case.{Curve, curves, Reserve, reserves}
+use Rattle.market.specs.Version.{Version}
+use Rattle.market.specs.Case.{Curve, zoned_curves, zoned, curves, has_curve, Reserve, reserves}
 use Rattle.market.specs.CheckInWords.{Between, EitherWay}
-use Rattle.market.proofs.Families.{at_curve, at_reserve}
+use Rattle.market.proofs.Versions.{each_zoned, at_zoned, each_curve, at_curve}
+use Rattle.market.proofs.Families.{at_reserve}
 
 -- the test t passes exactly when S holds
 pub record Decides (t : Bool) (S : Type 0) : Type 0 where
@@ -103,8 +105,11 @@ module _ {A : Type 0} {t : A → Bool} {S : A → Type 0} (d : (x : A) → Decid
 pub below_test : {t : ℕ → Bool} {S : ℕ → Type 0} → ((i : ℕ) → Decides (t i) (S i)) → (n : ℕ) → Decides (all t (upto n)) ((i : ℕ) → i < n → S i)
 below_test {S = S} d n = reworded (each_test d (upto n)) (at_upto S n) (each-upto S n)
 
-pub curves_test : {t : Curve → Bool} {S : Curve → Type 0} → ((k : Curve) → Decides (t k) (S k)) → Decides (all t curves) ((k : Curve) → S k)
-curves_test {S = S} d = reworded (each_test d curves) (at_curve S) (λ h. (h _, (h _, (h _, (h _, tt)))))
+pub curves_test : (version : Version) {t : Curve → Bool} {S : Curve → Type 0} → ((k : Curve) → Decides (t k) (S k)) → Decides (all t (curves version)) ((k : Curve) → T (has_curve version k) → S k)
+curves_test version {S = S} d = reworded (each_test d (curves version)) (at_curve version S) (each_curve version S)
+
+pub zoned_test : {t : Curve → Bool} {S : Curve → Type 0} → ((k : Curve) → Decides (t k) (S k)) → Decides (all t zoned_curves) ((k : Curve) → T (zoned k) → S k)
+zoned_test {S = S} d = reworded (each_test d zoned_curves) (at_zoned S) (each_zoned S)
 
 pub reserves_test : {t : Reserve → Bool} {S : Reserve → Type 0} → ((p : Reserve) → Decides (t p) (S p)) → Decides (all t reserves) ((p : Reserve) → S p)
 reserves_test {S = S} d = reworded (each_test d reserves) (at_reserve S) (λ h. (h _, (h _, (h _, tt))))

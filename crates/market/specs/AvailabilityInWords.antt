@@ -35,6 +35,9 @@ module _ {A : Type 0} where
 abbrev pub LeastOf : List ℕ → ℕ → Type 0
 LeastOf vs v = Each (λ v'. v ≤ v') vs × OneOf vs v
 
+abbrev pub LeastOfℤ : List ℤ → ℤ → Type 0
+LeastOfℤ vs v = Each (λ v'. v ≤ℤ v') vs × OneOf vs v
+
 abbrev pub LargestOf : List ℤ → ℤ → Type 0
 LargestOf vs v = Each (λ v'. v' ≤ℤ v) vs × OneOf vs v
 
@@ -87,21 +90,21 @@ pub record LimitsInWords (r : Resource) : Type 0 where
   pub max_emergency : OnLine r → BitSet 16 r.flags → max_of r ≡ r.emergency_max
   pub max_regulating : OnLine r → BitClear 16 r.flags → BitSet 1 r.flags → max_of r ≡ r.regulating_max
   pub max_economic : OnLine r → BitClear 16 r.flags → BitClear 1 r.flags → max_of r ≡ r.economic_max
-  pub min_emergency : OnLine r → BitSet 64 r.flags → min_of r ≡ r.emergency_min
-  pub min_regulating : OnLine r → BitClear 64 r.flags → BitSet 1 r.flags → min_of r ≡ r.regulating_min
-  pub min_economic : OnLine r → BitClear 64 r.flags → BitClear 1 r.flags → min_of r ≡ r.economic_min
-  pub high_ramped : OnLine r → hi_of r ≡ r.initial + 5 * r.ramp_up
+  pub min_emergency : OnLine r → BitSet 64 r.flags → min_of r ≡ pos r.emergency_min
+  pub min_regulating : OnLine r → BitClear 64 r.flags → BitSet 1 r.flags → min_of r ≡ pos r.regulating_min
+  pub min_economic : OnLine r → BitClear 64 r.flags → BitClear 1 r.flags → min_of r ≡ pos r.economic_min
+  pub high_ramped : OnLine r → hi_of r ≡ pos (r.initial + 5 * r.ramp_up)
   -- at least 0; if self-scheduled, the larger of that and the least of HI, MAX and the self-schedule (02, request 6)
-  pub low_ramped : OnLine r → BitClear 32 r.flags → LargestOf (pos 0 ∷ ramped_down r ∷ []) (pos (lo_of r))
-  pub in_reach : LeastOf (hi_of r ∷ max_of r ∷ r.self_schedule ∷ []) (self_schedule_in_reach r)
-  pub low_self_scheduled : OnLine r → BitSet 32 r.flags → LargestOf (pos 0 ∷ ramped_down r ∷ pos (self_schedule_in_reach r) ∷ []) (pos (lo_of r))
+  pub low_ramped : OnLine r → BitClear 32 r.flags → LargestOf (pos 0 ∷ ramped_down r ∷ []) (lo_of r)
+  pub in_reach : LeastOfℤ (hi_of r ∷ pos (max_of r) ∷ pos r.self_schedule ∷ []) (self_schedule_in_reach r)
+  pub low_self_scheduled : OnLine r → BitSet 32 r.flags → LargestOf (pos 0 ∷ ramped_down r ∷ self_schedule_in_reach r ∷ []) (lo_of r)
   -- so one that both reach counts as 01 has it,
-  pub low_in_reach : OnLine r → BitSet 32 r.flags → r.self_schedule ≤ hi_of r → r.self_schedule ≤ max_of r → LargestOf (pos 0 ∷ ramped_down r ∷ pos r.self_schedule ∷ []) (pos (lo_of r))
+  pub low_in_reach : OnLine r → BitSet 32 r.flags → pos r.self_schedule ≤ℤ hi_of r → r.self_schedule ≤ max_of r → LargestOf (pos 0 ∷ ramped_down r ∷ pos r.self_schedule ∷ []) (lo_of r)
   -- and none lifts LO above HI, nor above MAX unless the ramp's floor is above it
-  pub low_below_high : lo_of r ≤ hi_of r
-  pub low_below_max : ramped_down r ≤ℤ pos (max_of r) → lo_of r ≤ max_of r
+  pub low_below_high : lo_of r ≤ℤ hi_of r
+  pub low_below_max : ramped_down r ≤ℤ pos (max_of r) → lo_of r ≤ℤ pos (max_of r)
   -- off-line, and tripped: MAX and HI economic maximum, MIN and LO 0
-  pub off_line_limits : NotOnLine r → (max_of r ≡ r.economic_max) × (hi_of r ≡ r.economic_max) × (min_of r ≡ 0) × (lo_of r ≡ 0)
+  pub off_line_limits : NotOnLine r → (max_of r ≡ r.economic_max) × (hi_of r ≡ pos r.economic_max) × (min_of r ≡ pos 0) × (lo_of r ≡ pos 0)
 
 -- ---- upper bounds
 -- the least of RAMP, SHARE and MAX, with the reserve's own figures

@@ -1,16 +1,37 @@
 -- A case: the figures of one dispatch interval, whatever file they came from (01, 'What is carried', 'The case file').
 -- Resources, zones, flowgates and steps count from 0 here. Power is in kW, prices are in cents per MWh.
-use Rattle.std.specs.Prelude.{List, [], ◌∷◌, ℕ, zero, suc, ◌+◌, ℤ}
--- the four demand curves, each with its reserve rows
+use Rattle.std.specs.Prelude.{Bool, true, List, [], ◌∷◌, ℕ, zero, suc, ◌+◌, ℤ}
+use Rattle.market.specs.Version.{Version}
+-- the demand curves, each with its reserve rows
 pub use Rattle.market.specs.declared.Curve.{Curve}
 pub use Rattle.market.specs.declared.Curve.TheVariants.{Operating as operating, RegulatingPlusSpinning as regulating_plus_spinning, Regulating as regulating, ShortTerm as short_term}
 -- the three reserves that have a multiplier, minutes, a largest share and a market requirement
 pub use Rattle.market.specs.declared.Reserve.{Reserve}
 pub use Rattle.market.specs.declared.Reserve.TheVariants.{Regulating as regulating_reserve, Contingency as contingency_reserve, ShortTerm as short_term_reserve}
 
--- in the file's order
-abbrev pub curves : List Curve
-curves = operating ∷ regulating_plus_spinning ∷ regulating ∷ short_term ∷ []
+-- all that an version may have
+abbrev pub all_curves : List Curve
+all_curves = operating ∷ regulating_plus_spinning ∷ regulating ∷ short_term ∷ []
+
+-- which of them an version has, and which have a row and a requirement in each zone
+abbrev pub has_curve : Version → Curve → Bool
+has_curve version operating = true
+has_curve version regulating_plus_spinning = true
+has_curve version regulating = true
+has_curve version short_term = true
+
+abbrev pub zoned : Curve → Bool
+zoned operating = true
+zoned regulating_plus_spinning = true
+zoned regulating = true
+zoned short_term = true
+
+-- those of a zone, and those of an version, in the file's order
+abbrev pub zoned_curves : List Curve
+zoned_curves = operating ∷ regulating_plus_spinning ∷ regulating ∷ short_term ∷ []
+
+abbrev pub curves : Version → List Curve
+curves version = zoned_curves
 
 abbrev pub curve_number : Curve → ℕ
 curve_number operating = 0
@@ -32,6 +53,8 @@ pub record Resource : Type 0 where
   -- minutes since trip, 255 none
   pub trip : ℕ
   pub flags : ℕ
+  -- 0 in a file that has none (02, request 3)
+  pub ramp_flags : ℕ
   -- estimated
   pub output : ℤ
   pub economic_min : ℕ
@@ -56,6 +79,8 @@ pub record Resource : Type 0 where
   pub step_price : ℕ → ℤ
 
 pub record Case : Type 0 where
+  -- of the file that it came from
+  pub version : Version
   pub resources : ℕ
   pub zones : ℕ
   pub flowgates : ℕ

@@ -3,7 +3,8 @@ use Rattle.std.specs.Prelude.{Bool, true, ◌&&◌, List, [], ◌∷◌, ℕ, ze
 use Rattle.std.specs.Int.Signed.{le_z}
 use Rattle.arith.specs.Sums.{upto, all}
 use Rattle.market.specs.Bytes.{u8_at, u32_at, within, within_ℤ, either_way}
-use Rattle.market.specs.Case.{Case, Resource, curves, Reserve, reserves, width_of, energy_steps, curve_steps}
+use Rattle.market.specs.Version.{Version, known}
+use Rattle.market.specs.Case.{Case, Resource, zoned_curves, curves, Reserve, reserves, width_of, energy_steps, curve_steps}
 use Rattle.market.specs.CaseFile.{case_size}
 
 -- ---- 3: the largest counts
@@ -24,9 +25,9 @@ pub record CountsWithin (r z f : ℕ) : Type 0 where
   pub most_zones : z ≤ most_zones
   pub most_flowgates : f ≤ most_flowgates
 
--- the largest file
-abbrev pub largest_case_size : ℕ
-largest_case_size = case_size most_resources most_zones most_flowgates
+-- the largest file of an version
+abbrev pub largest_case_size : Version → ℕ
+largest_case_size version = case_size version most_resources most_zones most_flowgates
 
 -- ---- 1 to 4
 -- 1, and 8 of a certificate: at least so many bytes, and as many as the length field says
@@ -35,7 +36,7 @@ length_right least b = leb least (length b) && eqb (u32_at b 0 + 4) (length b)
 
 -- 2, and 9 of a certificate
 unfoldable pub version_right : List ℕ → Bool
-version_right b = eqb (u8_at b 4) 1
+version_right b = known (u8_at b 4)
 
 -- 3
 unfoldable pub counts_right : ℕ → ℕ → ℕ → Bool
@@ -43,7 +44,7 @@ counts_right r z f = within 1 most_resources r && within 1 most_zones z && withi
 
 -- 4
 unfoldable pub case_size_right : List ℕ → Case → Bool
-case_size_right b c = eqb (length b) (case_size c.resources c.zones c.flowgates)
+case_size_right b c = eqb (length b) (case_size c.version c.resources c.zones c.flowgates)
 
 -- ---- 5: every field within its range
 unfoldable pub reserve_in_range : Case → Reserve → Bool
@@ -76,8 +77,8 @@ unfoldable pub fields_in_range : Case → Bool
 fields_in_range c =
     within 0 128000000 c.demand
     && all (reserve_in_range c) reserves
-    && all (λ k. all (λ j. within 0 8000000 (c.curve_width k j) && within 0 400000 (c.curve_price k j)) (upto curve_steps)) curves
-    && all (λ z. all (λ k. within 0 2000000 (c.zone_requirement z k)) curves) (upto c.zones)
+    && all (λ k. all (λ j. within 0 8000000 (c.curve_width k j) && within 0 400000 (c.curve_price k j)) (upto curve_steps)) (curves c.version)
+    && all (λ z. all (λ k. within 0 2000000 (c.zone_requirement z k)) zoned_curves) (upto c.zones)
     && all (λ i. resource_in_range c.zones (c.resource i)) (upto c.resources)
     && all (flowgate_in_range c) (upto c.flowgates)
 
@@ -107,7 +108,7 @@ energy_steps_right r = steps_right never_falls r.step_width r.step_price energy_
 
 unfoldable pub steps_rule : Case → Bool
 steps_rule c =
-    all (λ k. steps_right never_rises (c.curve_width k) (λ j. pos (c.curve_price k j)) curve_steps) curves
+    all (λ k. steps_right never_rises (c.curve_width k) (λ j. pos (c.curve_price k j)) curve_steps) (curves c.version)
     && all (λ i. energy_steps_right (c.resource i)) (upto c.resources)
 
 -- ---- 7: no minimum above its maximum

@@ -1,6 +1,7 @@
 -- The gap and the listed charges, in charge order (01, 'Certificate, cost, bound, charges').
 -- 'Charge' is 01's own term: what one row, or one priced quantity, adds to the gap.
 use Rattle.std.specs.Prelude.{List, ◌++◌, map, ℕ, ◌+◌, ℤ, pos, ◌*ℤ◌, ◌-ℤ◌}
+use Rattle.market.specs.Version.{Version}
 use Rattle.market.specs.Case.{Case}
 use Rattle.market.specs.UpperBounds.{Schedule}
 use Rattle.market.specs.Rows.{Row, rows, row_count_of, slack}
@@ -22,8 +23,8 @@ unfoldable pub charges : Case → Schedule → Prices → List ℤ
 charges c x y = map (row_charge c x y) (rows c) ++ map (priced_charge c x y) (priced c)
 
 -- 21 + 4Z + F + 19R
-abbrev pub charge_count_of : ℕ → ℕ → ℕ → ℕ
-charge_count_of r z f = row_count_of r z f + priced_count_of r
+abbrev pub charge_count_of : Version → ℕ → ℕ → ℕ → ℕ
+charge_count_of version r z f = row_count_of version r z f + priced_count_of version r
 
 abbrev pub charge_count : Case → ℕ
-charge_count c = charge_count_of c.resources c.zones c.flowgates
+charge_count c = charge_count_of c.version c.resources c.zones c.flowgates

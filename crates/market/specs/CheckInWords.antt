@@ -2,7 +2,7 @@
 -- test holds of, with the paper's figures. The steps' rule is one of any two steps.
 use Rattle.std.specs.Prelude.{List, [], ◌∷◌, ◌↔◌, ◌≡◌, ℕ, ◌≤◌, ◌<◌, T, ℤ, pos, neg_ℤ, ◌≤ℤ◌}
 use Rattle.arith.specs.Sums.{Each}
-use Rattle.market.specs.Case.{Case, Resource, Curve, Reserve, width_of}
+use Rattle.market.specs.Case.{Case, Resource, Curve, has_curve, zoned, Reserve, width_of}
 use Rattle.market.specs.CaseCheck.{counts_right, fields_in_range, steps_rule, limits_ordered}
 use Rattle.market.specs.Rows.{Limit, balance_row, market_row, zone_row, flowgate_row, limit_row}
 use Rattle.market.specs.Certificate.{Certificate}
@@ -52,8 +52,8 @@ pub record FlowgateWithin (c : Case) (f : ℕ) : Type 0 where
 pub record FieldsWithin (c : Case) : Type 0 where
   pub demand_within : c.demand ≤ 128000000
   pub reserves_within : (reserve : Reserve) → ReserveWithin c reserve
-  pub curves_within : (k : Curve) (j : ℕ) → j < 4 → (c.curve_width k j ≤ 8000000) × (c.curve_price k j ≤ 400000)
-  pub zones_within : (z : ℕ) → z < c.zones → (k : Curve) → c.zone_requirement z k ≤ 2000000
+  pub curves_within : (k : Curve) → T (has_curve c.version k) → (j : ℕ) → j < 4 → (c.curve_width k j ≤ 8000000) × (c.curve_price k j ≤ 400000)
+  pub zones_within : (z : ℕ) → z < c.zones → (k : Curve) → T (zoned k) → c.zone_requirement z k ≤ 2000000
   pub resources_within : (i : ℕ) → i < c.resources → ResourceWithin c.zones (c.resource i)
   pub flowgates_within : (f : ℕ) → f < c.flowgates → FlowgateWithin c f
 
@@ -72,7 +72,7 @@ abbrev pub NeverRise : ℤ → ℤ → Type 0
 NeverRise price price' = price' ≤ℤ price
 
 pub record StepsKept (c : Case) : Type 0 where
-  pub curve_steps : (k : Curve) → StepsInOrder NeverRise (c.curve_width k) (λ j. pos (c.curve_price k j)) 4
+  pub curve_steps : (k : Curve) → T (has_curve c.version k) → StepsInOrder NeverRise (c.curve_width k) (λ j. pos (c.curve_price k j)) 4
   pub energy_steps : (i : ℕ) → i < c.resources → StepsInOrder NeverFall (c.resource i).step_width (c.resource i).step_price 10
   pub energy_widths : (i : ℕ) → i < c.resources → width_of (c.resource i).step_width 10 ≤ 2000000
 

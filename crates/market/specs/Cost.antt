@@ -2,9 +2,10 @@
 -- 'Grain' is 01's own term: one thousandth of a cent per MWh times one kW.
 use Rattle.std.specs.Prelude.{cond, List, ◌++◌, map, ℕ, ◌+◌, ◌*◌, ◌-◌, min, length, ℤ, pos, neg_ℤ, ◌*ℤ◌}
 use Rattle.arith.specs.Sums.{upto, sum_of, across}
+use Rattle.market.specs.Version.{Version}
 use Rattle.market.specs.Case.{Case, Resource, Curve, curves, width_of, energy_steps, curve_steps}
 use Rattle.market.specs.Availability.{on_line}
-use Rattle.market.specs.UpperBounds.{Service, energy, regulation, contingency, on_line_short_term, off_line_short_term, reserve_services, Quantity, cleared_quantity, provided_quantity, Schedule, service_bound}
+use Rattle.market.specs.UpperBounds.{Service, energy, regulation, contingency, on_line_short_term, off_line_short_term, ramping_up, ramping_down, charging, reserve_services, Quantity, cleared_quantity, provided_quantity, Schedule, service_bound}
 
 -- the steps stand for e and for the cleared quantities
 pub data Priced : Type 0 where
@@ -13,28 +14,28 @@ pub data Priced : Type 0 where
   priced_curve_step : Curve → ℕ → Priced
 
 -- of a resource: ten steps, g, c, s, o
-abbrev pub priced_of : ℕ → List Priced
-priced_of i = map (priced_energy_step i) (upto energy_steps) ++ map (priced_whole i) reserve_services
+abbrev pub priced_of : Version → ℕ → List Priced
+priced_of version i = map (priced_energy_step i) (upto energy_steps) ++ map (priced_whole i) (reserve_services version)
 
 abbrev pub curve_priced : Curve → List Priced
 curve_priced k = map (priced_curve_step k) (upto curve_steps)
 
 -- in charge order
 unfoldable pub priced : Case → List Priced
-priced c = across priced_of (upto c.resources) ++ across curve_priced curves
+priced c = across (priced_of c.version) (upto c.resources) ++ across curve_priced (curves c.version)
 
 -- how many of a resource, of the curves, and in all
-abbrev pub resource_priced_count : ℕ
-resource_priced_count = energy_steps + length reserve_services
+abbrev pub resource_priced_count : Version → ℕ
+resource_priced_count version = energy_steps + length (reserve_services version)
 
-abbrev pub curve_priced_count : ℕ
-curve_priced_count = length curves * curve_steps
+abbrev pub curve_priced_count : Version → ℕ
+curve_priced_count version = length (curves version) * curve_steps
 
-abbrev pub priced_count_of : ℕ → ℕ
-priced_count_of resources = resources * resource_priced_count + curve_priced_count
+abbrev pub priced_count_of : Version → ℕ → ℕ
+priced_count_of version resources = resources * resource_priced_count version + curve_priced_count version
 
 abbrev pub priced_count : Case → ℕ
-priced_count c = priced_count_of c.resources
+priced_count c = priced_count_of c.version c.resources
 
 -- a step has its quantity's coefficient
 unfoldable pub quantity_of : Priced → Quantity
@@ -42,13 +43,16 @@ quantity_of (priced_energy_step i j) = provided_quantity i energy
 quantity_of (priced_whole i s) = provided_quantity i s
 quantity_of (priced_curve_step k j) = cleared_quantity k
 
--- prices in cents: of s 0, of a curve step minus
+-- prices in cents: of s, and of what no version has, 0; of a curve step minus
 unfoldable pub service_price : Resource → Service → ℕ
 service_price r energy = 0
 service_price r regulation = r.regulating_price
 service_price r contingency = r.contingency_price
 service_price r on_line_short_term = 0
 service_price r off_line_short_term = r.off_line_short_term_price
+service_price r ramping_up = 0
+service_price r ramping_down = 0
+service_price r charging = 0
 
 unfoldable pub offer : Case → Priced → ℤ
 offer c (priced_energy_step i j) = (c.resource i).step_price j

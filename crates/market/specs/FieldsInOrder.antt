@@ -1,8 +1,9 @@
 -- The numbers of a file are the figures of its case or certificate, in the order in which 01 lists them: the places of
 -- `CaseFile` and `Certificate` and the field lists of `Numbers` describe the same file.
 use Rattle.std.specs.Prelude.{◌≡◌, List, [], ◌∷◌, ◌++◌, map, ℕ, ℤ, pos}
-use Rattle.arith.specs.Sums.{upto, across}
-use Rattle.market.specs.Case.{Case, Resource, Curve, curves, Reserve, regulating_reserve, contingency_reserve, short_term_reserve, energy_steps, curve_steps}
+use Rattle.arith.specs.Sums.{upto, across, when}
+use Rattle.market.specs.Version.{Version, ramping, releasing}
+use Rattle.market.specs.Case.{Case, Resource, Curve, zoned_curves, curves, Reserve, regulating_reserve, contingency_reserve, short_term_reserve, energy_steps, curve_steps}
 use Rattle.market.specs.CaseFile.{case_of}
 use Rattle.market.specs.UpperBounds.{cleared_quantity, provided_quantity, services}
 use Rattle.market.specs.Rows.{balance_row, market_row, zone_row, flowgate_row, limit_row, limits}
@@ -25,20 +26,21 @@ abbrev pub head_figures : Case → List ℤ
 head_figures c =
     pos c.resources ∷ pos c.zones ∷ pos c.flowgates ∷ pos c.demand
     ∷ across (pair_figures c) (contingency_reserve ∷ regulating_reserve ∷ short_term_reserve ∷ [])
-    ++ (map (λ reserve. pos (c.share reserve)) share_ordered ++ (map (λ reserve. pos (c.requirement reserve)) share_ordered ++ across (curve_figures c) curves))
+    ++ (map (λ reserve. pos (c.share reserve)) share_ordered ++ (map (λ reserve. pos (c.requirement reserve)) share_ordered ++ across (curve_figures c) (curves c.version)))
 
 abbrev pub zone_figures : Case → ℕ → List ℤ
-zone_figures c z = map (λ k. pos (c.zone_requirement z k)) curves
+zone_figures c z = map (λ k. pos (c.zone_requirement z k)) zoned_curves
 
-abbrev pub resource_figures : Resource → List ℤ
-resource_figures r =
-    pos r.kind ∷ pos r.zone ∷ pos r.breaker ∷ pos r.status ∷ pos r.trip ∷ pos r.flags
-    ∷ r.output
-    ∷ pos r.economic_min ∷ pos r.economic_max ∷ pos r.regulating_min ∷ pos r.regulating_max ∷ pos r.emergency_min ∷ pos r.emergency_max
+abbrev pub resource_figures : Version → Resource → List ℤ
+resource_figures version r =
+    pos r.kind ∷ pos r.zone ∷ pos r.breaker ∷ pos r.status ∷ pos r.trip ∷ pos r.flags ∷ when (ramping version) (pos r.ramp_flags ∷ [])
+    ++ (r.output
+    ∷ pos r.economic_min ∷ pos r.economic_max ∷ pos r.regulating_min ∷ pos r.regulating_max ∷ when (releasing version) (pos r.emergency_min ∷ [])
+    ++ (pos r.emergency_max
     ∷ pos r.ramp_up ∷ pos r.ramp_down ∷ pos r.ramp_rate
     ∷ pos r.initial ∷ pos r.off_line_response ∷ pos r.off_line_short_term ∷ pos r.self_schedule
     ∷ pos r.regulating_price ∷ pos r.contingency_price ∷ pos r.off_line_short_term_price
-    ∷ across (λ j. pos (r.step_width j) ∷ r.step_price j ∷ []) (upto energy_steps)
+    ∷ across (λ j. pos (r.step_width j) ∷ r.step_price j ∷ []) (upto energy_steps)))
 
 abbrev pub flowgate_figures : Case → ℕ → List ℤ
 flowgate_figures c f = c.flowgate_limit f ∷ map (c.shift_factor f) (upto c.resources)
@@ -47,17 +49,17 @@ abbrev pub case_figures : Case → List ℤ
 case_figures c =
     head_figures c
     ++ (across (zone_figures c) (upto c.zones)
-    ++ (across (λ i. resource_figures (c.resource i)) (upto c.resources) ++ across (flowgate_figures c) (upto c.flowgates)))
+    ++ (across (λ i. resource_figures c.version (c.resource i)) (upto c.resources) ++ across (flowgate_figures c) (upto c.flowgates)))
 
 -- ---- a certificate
 abbrev pub resource_claims : Certificate → ℕ → List ℤ
-resource_claims d i = map (λ s. pos (d.amount (provided_quantity i s))) services ++ map (λ l. d.price (limit_row i l)) limits
+resource_claims d i = map (λ s. pos (d.amount (provided_quantity i s))) (services d.version) ++ map (λ l. d.price (limit_row i l)) (limits d.version)
 
 abbrev pub certificate_figures : Certificate → List ℤ
 certificate_figures d =
     (pos d.resources ∷ pos d.zones ∷ pos d.flowgates
-    ∷ map (λ k. pos (d.amount (cleared_quantity k))) curves ++ (d.price balance_row ∷ map (λ k. d.price (market_row k)) curves))
-    ++ (across (λ z. map (λ k. d.price (zone_row z k)) curves) (upto d.zones)
+    ∷ map (λ k. pos (d.amount (cleared_quantity k))) (curves d.version) ++ (d.price balance_row ∷ map (λ k. d.price (market_row k)) (curves d.version)))
+    ++ (across (λ z. map (λ k. d.price (zone_row z k)) zoned_curves) (upto d.zones)
     ++ (map (λ f. d.price (flowgate_row f)) (upto d.flowgates) ++ across (resource_claims d) (upto d.resources)))
 
 pub record FieldsInOrder : Type 0 where

@@ -3,7 +3,7 @@
 use Rattle.std.specs.Prelude.{List, ◌≡◌, ℕ, ◌+◌, ◌*◌, ◌<◌, ◌≤◌, T, ℤ, pos, nat_abs, ◌*ℤ◌}
 use Rattle.arith.specs.Sums.{size_of, Each, all, upto}
 use Rattle.market.specs.declared.Refusal.TheVariants.{AboveBound}
-use Rattle.market.specs.Case.{Case, curves, reserves, energy_steps, curve_steps}
+use Rattle.market.specs.Case.{Case, zoned_curves, curves, reserves, energy_steps, curve_steps}
 use Rattle.market.specs.CaseFile.{case_of}
 use Rattle.market.specs.UpperBounds.{quantities, Schedule}
 use Rattle.market.specs.Rows.{rows, coefficient, right_side, balance_row, market_row, zone_row, flowgate_row, slack, left_side}
@@ -37,7 +37,7 @@ pub record SumsFit (c : Case) (x : Schedule) (y : Prices) : Type 0 where
   pub low_terms : Each (λ i. Fits64 (pos ((c.resource i).initial + 5 * (c.resource i).ramp_down))) (upto c.resources)
   -- the sums of step widths, a resource's and a curve's
   pub energy_widths : Each (λ i. TermsFit (λ j. pos ((c.resource i).step_width j)) (upto energy_steps)) (upto c.resources)
-  pub curve_widths : Each (λ k. TermsFit (λ j. pos (c.curve_width k j)) (upto curve_steps)) curves
+  pub curve_widths : Each (λ k. TermsFit (λ j. pos (c.curve_width k j)) (upto curve_steps)) (curves c.version)
   -- RAMP = ramp rate × t × 1000 / m and SHARE = share × requirement / 1000: the products, before they are divided
   pub ramp_products : Each (λ reserve. Each (λ i. Fits64 (pos ((c.resource i).ramp_rate * c.minutes reserve * 1000))) (upto c.resources)) reserves
   pub share_products : Each (λ reserve. Fits64 (pos (c.share reserve * c.requirement reserve))) reserves
@@ -63,7 +63,7 @@ pub record SumsFit (c : Case) (x : Schedule) (y : Prices) : Type 0 where
   -- prices: an LMP is row 1's price less the sum of flowgate price × factor; zone prices add market rows and zone rows
   pub lmp_terms : Each (λ i. TermsFitWith (y balance_row) (λ f. y (flowgate_row f) *ℤ c.shift_factor f i) (upto c.flowgates)) (upto c.resources)
   pub lmp_fits : Each (λ i. Fits64 (lmp_of c y i)) (upto c.resources)
-  pub zone_price_terms : Each (λ z. (size_of (λ k. y (market_row k)) curves + size_of (λ k. y (zone_row z k)) curves) < range64) (upto c.zones)
+  pub zone_price_terms : Each (λ z. (size_of (λ k. y (market_row k)) zoned_curves + size_of (λ k. y (zone_row z k)) zoned_curves) < range64) (upto c.zones)
   pub zone_prices_fit : Each (λ z. Each (λ v. Fits64 v) (zone_prices y z)) (upto c.zones)
 
 -- how large those are that grow with the flowgates: the figures of 64 resources, 8 zones and 12 flowgates

@@ -1,8 +1,8 @@
 -- The table in the words of 01: the slack of each kind of row as the sum that 'Rows' writes, and the net price of each kind
 -- of priced quantity without a sum over all rows. The cost theorem alone holds of many tables; these say which one it is.
-use Rattle.std.specs.Prelude.{◌≡◌, cond, ℕ, suc, ◌<◌, eqb, ℤ, pos, ◌+ℤ◌, ◌*ℤ◌, ◌-ℤ◌}
+use Rattle.std.specs.Prelude.{◌≡◌, cond, ℕ, suc, ◌<◌, T, eqb, ℤ, pos, ◌+ℤ◌, ◌*ℤ◌, ◌-ℤ◌}
 use Rattle.arith.specs.Sums.{sum_of, upto}
-use Rattle.market.specs.Case.{Case, Resource, Curve, operating, regulating_plus_spinning, regulating, short_term}
+use Rattle.market.specs.Case.{Case, Resource, Curve, has_curve, operating, regulating_plus_spinning, regulating, short_term}
 use Rattle.market.specs.Limits.{max_of, min_of, hi_of, lo_of}
 use Rattle.market.specs.UpperBounds.{Service, energy, regulation, contingency, on_line_short_term, off_line_short_term, cleared_quantity, provided_quantity, Schedule}
 use Rattle.market.specs.Rows.{balance_row, market_row, zone_row, flowgate_row, limit_row, max_with_reserve, max_with_short_term, minimum, high, low, is_spinning, slack}
@@ -32,16 +32,16 @@ pub record RowsInWords (c : Case) (x : Schedule) : Type 0 where
   -- sum of e = demand
   pub balance : slack c x balance_row ≡ sum_of (λ i. kw_of x i energy) (upto c.resources) -ℤ pos c.demand
   -- market-wide against the cleared quantity, in a zone against its requirement
-  pub market : (k : Curve) → slack c x (market_row k) ≡ sum_of (reserve_of c x k) (upto c.resources) -ℤ pos (x (cleared_quantity k))
+  pub market : (k : Curve) → T (has_curve c.version k) → slack c x (market_row k) ≡ sum_of (reserve_of c x k) (upto c.resources) -ℤ pos (x (cleared_quantity k))
   pub zone : (z : ℕ) (k : Curve) → slack c x (zone_row z k) ≡ sum_of (reserve_in_zone c x z k) (upto c.resources) -ℤ pos (c.zone_requirement z k)
   -- sum of factor × e ≤ 1000 × limit
   pub flowgate : (f : ℕ) → slack c x (flowgate_row f) ≡ pos 1000 *ℤ c.flowgate_limit f -ℤ sum_of (λ i. c.shift_factor f i *ℤ kw_of x i energy) (upto c.resources)
   -- e+g+c ≤ MAX, e+s ≤ MAX, e-g ≥ MIN, e ≤ HI, e ≥ LO
   pub below_max : (i : ℕ) → i < c.resources → slack c x (limit_row i max_with_reserve) ≡ pos (max_of (c.resource i)) -ℤ (kw_of x i energy +ℤ kw_of x i regulation +ℤ kw_of x i contingency)
   pub below_max_short_term : (i : ℕ) → i < c.resources → slack c x (limit_row i max_with_short_term) ≡ pos (max_of (c.resource i)) -ℤ (kw_of x i energy +ℤ kw_of x i on_line_short_term)
-  pub above_min : (i : ℕ) → i < c.resources → slack c x (limit_row i minimum) ≡ kw_of x i energy -ℤ kw_of x i regulation -ℤ pos (min_of (c.resource i))
-  pub below_high : (i : ℕ) → i < c.resources → slack c x (limit_row i high) ≡ pos (hi_of (c.resource i)) -ℤ kw_of x i energy
-  pub above_low : (i : ℕ) → i < c.resources → slack c x (limit_row i low) ≡ kw_of x i energy -ℤ pos (lo_of (c.resource i))
+  pub above_min : (i : ℕ) → i < c.resources → slack c x (limit_row i minimum) ≡ kw_of x i energy -ℤ kw_of x i regulation -ℤ min_of (c.resource i)
+  pub below_high : (i : ℕ) → i < c.resources → slack c x (limit_row i high) ≡ hi_of (c.resource i) -ℤ kw_of x i energy
+  pub above_low : (i : ℕ) → i < c.resources → slack c x (limit_row i low) ≡ kw_of x i energy -ℤ lo_of (c.resource i)
 
 -- ---- net prices
 -- the prices of a resource's own rows, as they stand against its energy
@@ -63,4 +63,4 @@ pub record NetPricesInWords (c : Case) (y : Prices) : Type 0 where
       net_price c y (priced_whole i contingency) ≡ pos 1000 *ℤ pos (c.resource i).contingency_price -ℤ cond (is_spinning (c.resource i)) (zone_spinning_price y z) (zone_supplemental_price y z) +ℤ y (limit_row i max_with_reserve)
   pub on_line_short_term : (i z : ℕ) → Placed c i z → net_price c y (priced_whole i on_line_short_term) ≡ y (limit_row i max_with_short_term) -ℤ zone_short_term_price y z
   pub off_line_short_term : (i z : ℕ) → Placed c i z → net_price c y (priced_whole i off_line_short_term) ≡ pos 1000 *ℤ pos (c.resource i).off_line_short_term_price -ℤ zone_short_term_price y z
-  pub curve_step : (k : Curve) (j : ℕ) → net_price c y (priced_curve_step k j) ≡ y (market_row k) -ℤ pos 1000 *ℤ pos (c.curve_price k j)
+  pub curve_step : (k : Curve) → T (has_curve c.version k) → (j : ℕ) → net_price c y (priced_curve_step k j) ≡ y (market_row k) -ℤ pos 1000 *ℤ pos (c.curve_price k j)

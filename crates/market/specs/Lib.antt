@@ -2,7 +2,7 @@ pub mod Bytes
 pub mod Bits
 pub mod BitsInWords
 pub mod Kinds
-pub mod Edition
+pub mod Version
 pub mod Case
 pub mod CaseFile
 pub mod CaseCheck
@@ -11,6 +11,7 @@ pub mod Limits
 pub mod UpperBounds
 pub mod Rows
 pub mod Certificate
+pub mod Membership
 pub mod Cost
 pub mod Bound
 pub mod Charges
@@ -27,6 +28,7 @@ pub mod Promise
 pub mod RefusedExactly
 pub mod InWords
 pub mod SizesInWords
+pub mod FirstVersion
 pub mod CheckInWords
 pub mod AvailabilityInWords
 pub mod WrongTurns

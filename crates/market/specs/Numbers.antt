@@ -1,11 +1,12 @@
 -- Files as lists of numbers: every field but length and version, in order (01, 'How each operation refuses').
 use Rattle.market.specs.declared.Refusal.{Refusal}
 use Rattle.std.specs.Prelude.{Result}
-use Rattle.std.specs.Prelude.{Bool, true, false, ◌&&◌, List, [], ◌∷◌, ◌++◌, ℕ, suc, ◌+◌, ◌-◌, ◌/◌, ◌%◌, length, get_or, replicate, leb, eqb, ℤ, pos, negsuc, neg_ℤ, nat_abs}
-use Rattle.arith.specs.Sums.{total_of, upto, across}
+use Rattle.std.specs.Prelude.{Bool, true, false, ◌&&◌, List, [], ◌∷◌, ◌++◌, ℕ, suc, ◌+◌, ◌*◌, ◌-◌, ◌/◌, ◌%◌, length, get_or, replicate, leb, eqb, ℤ, pos, negsuc, neg_ℤ, nat_abs}
+use Rattle.arith.specs.Sums.{total_of, upto, across, when}
 use Rattle.market.specs.declared.Refusal.TheVariants.{Counts, FieldRange, StepRule, LimitPair, CertificateLength, CertificateVersion, CertificateSize, NumberList}
 use Rattle.market.specs.Bytes.{u8_at, u16_at, u32_at, i16_at, i32_at, within_ℤ}
-use Rattle.market.specs.Case.{curves, energy_steps}
+use Rattle.market.specs.Version.{Version, version_of, version_in, written_version, ramping, releasing}
+use Rattle.market.specs.Case.{zoned_curves, curves, energy_steps, curve_steps}
 use Rattle.market.specs.CaseFile.{case_of}
 use Rattle.market.specs.CaseCheck.{most_resources, most_zones, most_flowgates, length_right, version_right, counts_right, fields_in_range, steps_rule, limits_ordered}
 use Rattle.market.specs.UpperBounds.{services}
@@ -86,42 +87,49 @@ numbers_fit (field ∷ fields) (v ∷ vs) = within_ℤ (field_low field) (field_
 unfoldable pub times : ℕ → List Field → List Field
 times n fields = across (λ n'. fields) (upto n)
 
-abbrev pub head_fields : List Field
-head_fields = u8 ∷ u8 ∷ u8 ∷ u32 ∷ replicate 9 u16 ++ replicate 35 u32
+-- counts and demand, the reserves' figures, and the curves' steps
+abbrev pub head_fields : Version → List Field
+head_fields version = u8 ∷ u8 ∷ u8 ∷ u32 ∷ replicate 9 u16 ++ replicate (3 + length (curves version) * (curve_steps * 2)) u32
 
--- a number for each curve
-abbrev pub curve_fields : List Field
-curve_fields = replicate (length curves) u32
+-- a number for each curve of a zone, and of the market
+abbrev pub zone_fields : List Field
+zone_fields = replicate (length zoned_curves) u32
 
-abbrev pub resource_fields : List Field
-resource_fields = replicate 6 u8 ++ (i32 ∷ replicate 16 u32 ++ times energy_steps (u32 ∷ i32 ∷ []))
+abbrev pub curve_fields : Version → List Field
+curve_fields version = replicate (length (curves version)) u32
 
-abbrev pub flowgate_fields : ℕ → List Field
-flowgate_fields resources = i32 ∷ replicate resources i16
+abbrev pub resource_fields : Version → List Field
+resource_fields version =
+    replicate 6 u8 ++ (when (ramping version) (u8 ∷ [])
+    ++ (i32 ∷ replicate 4 u32 ++ (when (releasing version) (u32 ∷ [])
+    ++ (replicate 11 u32 ++ times energy_steps (u32 ∷ i32 ∷ [])))))
 
-unfoldable pub case_fields : ℕ → ℕ → ℕ → List Field
-case_fields r z f = head_fields ++ (times z curve_fields ++ (times r resource_fields ++ times f (flowgate_fields r)))
+abbrev pub flowgate_fields : Version → ℕ → List Field
+flowgate_fields version resources = i32 ∷ replicate resources i16
 
-abbrev pub certificate_head_fields : List Field
-certificate_head_fields = u8 ∷ u8 ∷ u8 ∷ curve_fields ++ (i32 ∷ curve_fields)
+unfoldable pub case_fields : Version → ℕ → ℕ → ℕ → List Field
+case_fields version r z f = head_fields version ++ (times z zone_fields ++ (times r (resource_fields version) ++ times f (flowgate_fields version r)))
+
+abbrev pub certificate_head_fields : Version → List Field
+certificate_head_fields version = u8 ∷ u8 ∷ u8 ∷ curve_fields version ++ (i32 ∷ curve_fields version)
 
 -- a resource's amounts, and the prices of its rows
-abbrev pub entry_fields : List Field
-entry_fields = replicate (length services + length limits) u32
+abbrev pub entry_fields : Version → List Field
+entry_fields version = replicate (length (services version) + length (limits version)) u32
 
-unfoldable pub certificate_fields : ℕ → ℕ → ℕ → List Field
-certificate_fields r z f = certificate_head_fields ++ (times z curve_fields ++ (times f (u32 ∷ []) ++ times r entry_fields))
+unfoldable pub certificate_fields : Version → ℕ → ℕ → ℕ → List Field
+certificate_fields version r z f = certificate_head_fields version ++ (times z zone_fields ++ (times f (u32 ∷ []) ++ times r (entry_fields version)))
 
--- length, version 1, fields
-unfoldable pub file_of : List Field → List ℤ → List ℕ
-file_of fields vs = u32_bytes (1 + total_of field_width fields) ++ (1 ∷ bytes_of fields vs)
+-- length, the version v, fields
+unfoldable pub file_of : ℕ → List Field → List ℤ → List ℕ
+file_of v fields vs = u32_bytes (1 + total_of field_width fields) ++ (v ∷ bytes_of fields vs)
 
 -- ---- read into numbers: a case 1 to 7, a certificate 8, 9, 3, 11; then 15
 abbrev pub FieldsOf : Type 0
-FieldsOf = ℕ → ℕ → ℕ → List Field
+FieldsOf = Version → ℕ → ℕ → ℕ → List Field
 
 unfoldable pub numbers_of : FieldsOf → List ℕ → List ℤ
-numbers_of fields b = numbers_at (fields (u8_at b 5) (u8_at b 6) (u8_at b 7)) b 5
+numbers_of fields b = numbers_at (fields (version_in b) (u8_at b 5) (u8_at b 6) (u8_at b 7)) b 5
 
 abbrev pub case_numbers : List ℕ → List ℤ
 case_numbers = numbers_of case_fields
@@ -134,7 +142,7 @@ certificate_file_grounds q =
     unless (length_right least_certificate_size q) CertificateLength
     ∷ unless (version_right q) CertificateVersion
     ∷ unless (counts_right (u8_at q 5) (u8_at q 6) (u8_at q 7)) Counts
-    ∷ unless (eqb (length q) (certificate_size (u8_at q 5) (u8_at q 6) (u8_at q 7))) CertificateSize
+    ∷ unless (eqb (length q) (certificate_size (version_in q) (u8_at q 5) (u8_at q 6) (u8_at q 7))) CertificateSize
     ∷ []
 
 -- with a lent buffer of n numbers
@@ -165,24 +173,25 @@ unfoldable pub counts_in_range : List ℤ → Bool
 counts_in_range vs =
     within_ℤ (pos 1) (pos most_resources) (get_or vs 0 (pos 0)) && within_ℤ (pos 1) (pos most_zones) (get_or vs 1 (pos 0)) && within_ℤ (pos 0) (pos most_flowgates) (get_or vs 2 (pos 0))
 
-unfoldable pub fields_for : FieldsOf → List ℤ → List Field
-fields_for fields vs = fields (count_in vs 0) (count_in vs 1) (count_in vs 2)
+-- in a file of version v
+unfoldable pub fields_for : FieldsOf → ℕ → List ℤ → List Field
+fields_for fields v vs = fields (version_of v) (count_in vs 0) (count_in vs 1) (count_in vs 2)
 
-unfoldable pub file_for : FieldsOf → List ℤ → List ℕ
-file_for fields vs = file_of (fields_for fields vs) vs
+unfoldable pub file_for : FieldsOf → ℕ → List ℤ → List ℕ
+file_for fields v vs = file_of v (fields_for fields v vs) vs
 
-unfoldable pub list_grounds : FieldsOf → List ℤ → List Finding
-list_grounds fields vs =
+unfoldable pub list_grounds : FieldsOf → ℕ → List ℤ → List Finding
+list_grounds fields v vs =
     unless (leb 3 (length vs)) NumberList
     ∷ unless (counts_in_range vs) Counts
-    ∷ unless (numbers_fit (fields_for fields vs) vs) NumberList
+    ∷ unless (numbers_fit (fields_for fields v vs) vs) NumberList
     ∷ []
 
 abbrev pub case_file : List ℤ → List ℕ
-case_file = file_for case_fields
+case_file = file_for case_fields written_version
 
 abbrev pub certificate_file : List ℤ → List ℕ
-certificate_file = file_for certificate_fields
+certificate_file = file_for certificate_fields written_version
 
 -- 5, 6, 7, of a case's bytes
 abbrev pub field_grounds : List ℕ → List Finding
@@ -194,10 +203,10 @@ field_grounds b =
 
 -- for a case 5, 6, 7, of the file that is to be written; then 15, with a lent buffer of n bytes
 unfoldable pub write_case_grounds : List ℤ → ℕ → List Finding
-write_case_grounds vs n = list_grounds case_fields vs ++ (field_grounds (case_file vs) ++ (room (length (case_file vs)) n ∷ []))
+write_case_grounds vs n = list_grounds case_fields written_version vs ++ (field_grounds (case_file vs) ++ (room (length (case_file vs)) n ∷ []))
 
 unfoldable pub write_certificate_grounds : List ℤ → ℕ → List Finding
-write_certificate_grounds vs n = list_grounds certificate_fields vs ++ (room (length (certificate_file vs)) n ∷ [])
+write_certificate_grounds vs n = list_grounds certificate_fields written_version vs ++ (room (length (certificate_file vs)) n ∷ [])
 
 unfoldable pub write_case : List ℤ → ℕ → Result ℕ Refusal
 write_case vs n = answered (length (case_file vs)) (first_of (write_case_grounds vs n))

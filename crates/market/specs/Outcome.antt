@@ -61,7 +61,7 @@ form_grounds c q d =
     unless (length_right least_certificate_size q) CertificateLength
     ∷ unless (version_right q) CertificateVersion
     ∷ unless (same_counts c d) CountsDiffer
-    ∷ unless (eqb (length q) (certificate_size c.resources c.zones c.flowgates)) CertificateSize
+    ∷ unless (eqb (length q) (certificate_size c.version c.resources c.zones c.flowgates)) CertificateSize
     ∷ []
 
 -- 12

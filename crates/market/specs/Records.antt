@@ -64,7 +64,7 @@ abbrev pub thousandths : ℕ → Thousandths
 thousandths n = record { 0 = n }
 
 abbrev pub counts_in : Case → Counts
-counts_in c = record { resources = c.resources; zones = c.zones; flowgates = c.flowgates }
+counts_in c = record { version = c.version; resources = c.resources; zones = c.zones; flowgates = c.flowgates }
 
 unfoldable pub offer_step_of : Resource → ℕ → Step
 offer_step_of r j = record { width = power (r.step_width j); price = cents (r.step_price j) }

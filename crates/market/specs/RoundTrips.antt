@@ -4,6 +4,7 @@ use Rattle.market.specs.declared.Refusal.{Refusal}
 use Rattle.std.specs.Prelude.{Result, Ok}
 use Rattle.std.specs.Prelude.{List, ◌++◌, ◌≡◌, ℕ, ◌+◌, ◌*◌, ◌<◌, ◌≤◌, length, take, drop, ℤ}
 use Rattle.arith.specs.Sums.{Each, total_of}
+use Rattle.market.specs.Version.{Version, first}
 use Rattle.market.specs.CaseFile.{case_size}
 use Rattle.market.specs.Certificate.{certificate_size}
 use Rattle.market.specs.Refusals.{Finding, AllClear}
@@ -30,8 +31,8 @@ pub record RoundTrip
 pub record RoundTrips : Type 0 where
   pub case_file : RoundTrip case_grounds case_numbers read_case read_case_buffer write_case write_case_buffer
   pub certificate_file : RoundTrip certificate_file_grounds certificate_numbers read_certificate read_certificate_buffer write_certificate write_certificate_buffer
-  -- how many numbers a file has, and that its fields fill it
-  pub case_count : (r z f : ℕ) → length (case_fields r z f) ≡ 48 + 4 * z + 43 * r + f * (r + 1)
-  pub certificate_count : (r z f : ℕ) → length (certificate_fields r z f) ≡ 12 + 4 * z + f + 10 * r
-  pub case_fills : (r z f : ℕ) → 5 + total_of field_width (case_fields r z f) ≡ case_size r z f
-  pub certificate_fills : (r z f : ℕ) → 5 + total_of field_width (certificate_fields r z f) ≡ certificate_size r z f
+  -- how many numbers a file of version 1 has, and that the fields fill the file
+  pub case_count : (r z f : ℕ) → length (case_fields first r z f) ≡ 48 + 4 * z + 43 * r + f * (r + 1)
+  pub certificate_count : (r z f : ℕ) → length (certificate_fields first r z f) ≡ 12 + 4 * z + f + 10 * r
+  pub case_fills : (version : Version) (r z f : ℕ) → 5 + total_of field_width (case_fields version r z f) ≡ case_size version r z f
+  pub certificate_fills : (version : Version) (r z f : ℕ) → 5 + total_of field_width (certificate_fields version r z f) ≡ certificate_size version r z f

@@ -3,10 +3,10 @@
 -- RowSizes, AmountSizes, NetPriceSizes and BoundSizes, that all sums fit in SumsFit; the code's contracts carry them. `Fits.SumsAtMost`
 -- has those of sums in decimals.
 use Rattle.std.specs.Prelude.{ℕ, ◌+◌, ◌*◌, length}
-use Rattle.market.specs.Case.{curves, curve_steps}
+use Rattle.market.specs.Case.{all_curves, zoned_curves, curve_steps}
 use Rattle.market.specs.CaseCheck.{most_resources, most_zones, most_flowgates}
-use Rattle.market.specs.UpperBounds.{Service, services, energy, regulation, contingency, on_line_short_term, off_line_short_term, Quantity, cleared_quantity, provided_quantity}
-use Rattle.market.specs.Rows.{Row, balance_row, market_row, zone_row, flowgate_row, limit_row, Limit, max_with_reserve, max_with_short_term, minimum, high, low, limits}
+use Rattle.market.specs.UpperBounds.{Service, energy, regulation, contingency, on_line_short_term, off_line_short_term, ramping_up, ramping_down, charging, Quantity, cleared_quantity, provided_quantity}
+use Rattle.market.specs.Rows.{Row, balance_row, market_row, zone_row, flowgate_row, limit_row, Limit, max_with_reserve, max_with_short_term, minimum, high, low, all_limits}
 
 -- ---- the ends of the ranges
 -- of a resource's power and of a width of its steps, in kW
@@ -60,10 +60,20 @@ most_right (zone_row z k) = most_zone_requirement
 most_right (flowgate_row f) = 1000 * most_flowgate_limit
 most_right (limit_row i l) = most_limit l
 
--- ---- amounts
+-- ---- amounts; 0 of what no version has
+abbrev pub most_provided : Service → ℕ
+most_provided energy = most_power
+most_provided regulation = most_power
+most_provided contingency = most_power
+most_provided on_line_short_term = most_power
+most_provided off_line_short_term = most_power
+most_provided ramping_up = 0
+most_provided ramping_down = 0
+most_provided charging = 0
+
 abbrev pub most_amount : Quantity → ℕ
 most_amount (cleared_quantity k) = curve_steps * most_curve_width
-most_amount (provided_quantity i s) = most_power
+most_amount (provided_quantity i s) = most_provided s
 
 -- ---- prices, in thousandths of a cent: of a row, and of an offer
 abbrev pub most_price : ℕ
@@ -91,13 +101,16 @@ most_short_term_price = 2 * most_price
 abbrev pub most_energy_rows : ℕ
 most_energy_rows = most_lmp + 5 * most_price
 
--- the offer, the LMP or the zone's price, and those of the resource's rows that the service stands in
+-- the offer, the LMP or the zone's price, and those of the resource's rows that the service stands in; no figure for what no version has
 abbrev pub most_service_net : Service → ℕ
 most_service_net energy = most_price + most_energy_rows
 most_service_net regulation = most_price + most_regulating_price + 2 * most_price
 most_service_net contingency = most_price + most_spinning_price + most_price
 most_service_net on_line_short_term = most_price + most_short_term_price
 most_service_net off_line_short_term = most_price + most_short_term_price
+most_service_net ramping_up = 0
+most_service_net ramping_down = 0
+most_service_net charging = 0
 
 -- a curve step: its price, and that of the market row
 abbrev pub most_curve_net : ℕ
@@ -110,11 +123,13 @@ most_net (provided_quantity i s) = most_service_net s
 -- ---- sums, over as many resources, zones and flowgates as there may be
 -- all amounts together, in kW
 abbrev pub most_amounts : ℕ
-most_amounts = length curves * (curve_steps * most_curve_width) + most_resources * (length services * most_power)
+most_amounts =
+    length all_curves * (curve_steps * most_curve_width)
+    + most_resources * (most_provided energy + most_provided regulation + most_provided contingency + most_provided on_line_short_term + most_provided off_line_short_term + most_provided ramping_up + most_provided ramping_down + most_provided charging)
 
 -- in thousandths of a cent: over all rows, row price × a quantity's coefficient
 abbrev pub most_taken : ℕ
-most_taken = (1 + length curves + most_zones * length curves + most_flowgates + most_resources * length limits) * most_price
+most_taken = (1 + length all_curves + most_zones * length zoned_curves + most_flowgates + most_resources * length all_limits) * most_price
 
 -- in grains: a schedule's cost; over all that is priced, net price × upper bound; over all rows, row price × right side
 abbrev pub most_cost : ℕ
@@ -122,13 +137,21 @@ most_cost = most_price * most_amounts
 
 abbrev pub most_products : ℕ
 most_products =
-    length curves * (most_curve_net * (curve_steps * most_curve_width))
-    + most_resources * ((most_service_net energy + most_service_net regulation + most_service_net contingency + most_service_net on_line_short_term + most_service_net off_line_short_term) * most_power)
+    length all_curves * (most_curve_net * (curve_steps * most_curve_width))
+    + most_resources
+    * (most_service_net energy * most_provided energy
+    + most_service_net regulation * most_provided regulation
+    + most_service_net contingency * most_provided contingency
+    + most_service_net on_line_short_term * most_provided on_line_short_term
+    + most_service_net off_line_short_term * most_provided off_line_short_term
+    + most_service_net ramping_up * most_provided ramping_up
+    + most_service_net ramping_down * most_provided ramping_down
+    + most_service_net charging * most_provided charging)
 
 abbrev pub most_row_terms : ℕ
 most_row_terms =
     most_price * most_demand
-    + most_zones * (length curves * (most_price * most_zone_requirement))
+    + most_zones * (length zoned_curves * (most_price * most_zone_requirement))
     + most_flowgates * (most_cents * (1000 * most_flowgate_limit))
     + most_resources * (most_price * (most_limit max_with_reserve + most_limit max_with_short_term + most_limit minimum + most_limit high + most_limit low))
 

@@ -1,6 +1,7 @@
 -- What a certificate gives an amount to, and the upper bound of each (01, 'What is carried', 'Before the rows').
-use Rattle.std.specs.Prelude.{cond, ◌||◌, List, [], ◌∷◌, ◌++◌, map, ℕ, ◌*◌, ◌/◌, min}
-use Rattle.arith.specs.Sums.{upto, across}
+use Rattle.std.specs.Prelude.{Bool, true, cond, ◌||◌, List, [], ◌∷◌, ◌++◌, map, ℕ, ◌*◌, ◌/◌, min}
+use Rattle.arith.specs.Sums.{upto, across, when}
+use Rattle.market.specs.Version.{Version, ramping, storing}
 use Rattle.market.specs.Bits.{on_line_supplemental, regulating_flag, spinning_flag, off_line_supplemental_flag, off_line_short_term_flag, on_line_short_term_flag}
 use Rattle.market.specs.Case.{Case, Resource, Curve, curves, Reserve, regulating_reserve, contingency_reserve, short_term_reserve, width_of, energy_steps, curve_steps}
 use Rattle.market.specs.Availability.{availability_of}
@@ -8,16 +9,30 @@ use Rattle.market.specs.Limits.{max_of}
 use Rattle.market.specs.declared.Availability.{Availability}
 use Rattle.market.specs.declared.Availability.TheVariants.{OnLine, OffLine, Tripped}
 
--- what a resource provides: e, g, c, s, o
+-- what a resource provides: e, g, c, s, o; and what no version has yet: u, d, h (02, requests 3 and 10)
 pub data Service : Type 0 where
-  energy regulation contingency on_line_short_term off_line_short_term : Service
+  energy regulation contingency on_line_short_term off_line_short_term ramping_up ramping_down charging : Service
+
+-- all that an version may have, and which of them it has
+abbrev pub all_services : List Service
+all_services = energy ∷ regulation ∷ contingency ∷ on_line_short_term ∷ off_line_short_term ∷ ramping_up ∷ ramping_down ∷ charging ∷ []
+
+abbrev pub has_service : Version → Service → Bool
+has_service version energy = true
+has_service version regulation = true
+has_service version contingency = true
+has_service version on_line_short_term = true
+has_service version off_line_short_term = true
+has_service version ramping_up = ramping version
+has_service version ramping_down = ramping version
+has_service version charging = storing version
 
 -- all but energy, whose steps are priced one by one
-abbrev pub reserve_services : List Service
-reserve_services = regulation ∷ contingency ∷ on_line_short_term ∷ off_line_short_term ∷ []
+abbrev pub reserve_services : Version → List Service
+reserve_services version = regulation ∷ contingency ∷ on_line_short_term ∷ off_line_short_term ∷ when (ramping version) (ramping_up ∷ ramping_down ∷ []) ++ when (storing version) (charging ∷ [])
 
-abbrev pub services : List Service
-services = energy ∷ reserve_services
+abbrev pub services : Version → List Service
+services version = energy ∷ reserve_services version
 
 pub data Quantity : Type 0 where
   cleared_quantity : Curve → Quantity
@@ -25,7 +40,7 @@ pub data Quantity : Type 0 where
 
 -- in the order of refusal 13's places
 unfoldable pub quantities : Case → List Quantity
-quantities c = map cleared_quantity curves ++ across (λ i. map (provided_quantity i) services) (upto c.resources)
+quantities c = map cleared_quantity (curves c.version) ++ across (λ i. map (provided_quantity i) (services c.version)) (upto c.resources)
 
 -- a schedule gives a whole number of kW, none negative, to each quantity
 abbrev pub Schedule : Type 0
@@ -42,18 +57,24 @@ share_of c reserve = c.share reserve * c.requirement reserve / 1000
 unfoldable pub on_line_bound : Case → Reserve → Resource → ℕ
 on_line_bound c reserve r = min (ramp_of c reserve r) (min (share_of c reserve) (max_of r))
 
--- on-line, off-line, tripped (01; 02, request 2)
+-- on-line, off-line, tripped (01; 02, request 2); 0 of what no version has
 unfoldable pub bound_when : Availability → Case → Resource → Service → ℕ
 bound_when OnLine c r energy = width_of r.step_width energy_steps
 bound_when OnLine c r regulation = cond (regulating_flag r.flags) (on_line_bound c regulating_reserve r) 0
 bound_when OnLine c r contingency = cond (spinning_flag r.flags || on_line_supplemental r.status) (on_line_bound c contingency_reserve r) 0
 bound_when OnLine c r on_line_short_term = cond (on_line_short_term_flag r.flags) (on_line_bound c short_term_reserve r) 0
 bound_when OnLine c r off_line_short_term = 0
+bound_when OnLine c r ramping_up = 0
+bound_when OnLine c r ramping_down = 0
+bound_when OnLine c r charging = 0
 bound_when OffLine c r energy = 0
 bound_when OffLine c r regulation = 0
 bound_when OffLine c r contingency = cond (off_line_supplemental_flag r.flags) (min r.economic_max (min r.off_line_response (share_of c contingency_reserve))) 0
 bound_when OffLine c r on_line_short_term = 0
 bound_when OffLine c r off_line_short_term = cond (off_line_short_term_flag r.flags) (min r.economic_max r.off_line_short_term) 0
+bound_when OffLine c r ramping_up = 0
+bound_when OffLine c r ramping_down = 0
+bound_when OffLine c r charging = 0
 bound_when Tripped c r s = 0
 
 unfoldable pub service_bound : Case → Resource → Service → ℕ

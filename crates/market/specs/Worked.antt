@@ -10,6 +10,7 @@ use Rattle.market.specs.declared.Availability.{Availability}
 use Rattle.market.specs.declared.CheckResult.{CheckResult}
 use Rattle.market.specs.declared.Answer.{Answer}
 use Rattle.market.specs.declared.Count.{Count}
+use Rattle.market.specs.Version.{first}
 use Rattle.market.specs.Case.{regulating_reserve}
 use Rattle.market.specs.CaseFile.{case_of}
 use Rattle.market.specs.Availability.{availability_of, on_line_figure}
@@ -79,7 +80,7 @@ intervals =
     ∷ []
 
 abbrev pub high_max_low : List ℕ → List ℤ
-high_max_low b = let r = (case_of b).resource 0 in pos (hi_of r) ∷ pos (max_of r) ∷ pos (lo_of r) ∷ []
+high_max_low b = let r = (case_of b).resource 0 in hi_of r ∷ pos (max_of r) ∷ lo_of r ∷ []
 
 -- K's resource is at 50,000, and its ramp's floor is 35,000: HI, MAX and LO (02, request 6)
 abbrev pub self_schedules : List Example
@@ -165,7 +166,7 @@ charges_in_order =
 
 -- Q with 1, 2, 3, 4 and 5 kW of e, g, c, s and o; the line that is printed of its resource
 abbrev pub provided_q : List ℕ
-provided_q = change (amounts_place 1 0 0) (u32_bytes 1 ++ (u32_bytes 2 ++ (u32_bytes 3 ++ (u32_bytes 4 ++ u32_bytes 5)))) worked_q
+provided_q = change (amounts_place first 1 0 0) (u32_bytes 1 ++ (u32_bytes 2 ++ (u32_bytes 3 ++ (u32_bytes 4 ++ u32_bytes 5)))) worked_q
 
 abbrev pub line_in_order : List ℕ
 line_in_order = 49 ∷ 32 ∷ 49 ∷ 32 ∷ 49 ∷ 32 ∷ 50 ∷ 32 ∷ 51 ∷ 32 ∷ 52 ∷ 32 ∷ 53 ∷ 32 ∷ 51 ∷ 48 ∷ 48 ∷ 48 ∷ 48 ∷ 48 ∷ 48 ∷ 10 ∷ []

@@ -23,7 +23,7 @@ pub record Trips : Type 0 where
 
 -- of e, g, c, s, o
 abbrev pub bounds_in : List ℕ → List ℤ
-bounds_in b = let c = case_of b in map (λ s. pos (service_bound c (c.resource 0) s)) services
+bounds_in b = let c = case_of b in map (λ s. pos (service_bound c (c.resource 0) s)) (services c.version)
 
 abbrev pub tripped_units : List Example
 tripped_units =

@@ -14,7 +14,7 @@ pub record WrongTurns : Type 0 where
   pub off_line_never_spins : (r : Resource) → on_line r ≡ false → in_reserve r regulating_plus_spinning contingency ≡ pos 0
   -- regulating limits before emergency ones
   pub emergency_maximum_first : (r : Resource) → on_line r ≡ true → emergency_maximum_flag r.flags ≡ true → max_of r ≡ r.emergency_max
-  pub emergency_minimum_first : (r : Resource) → on_line r ≡ true → emergency_minimum_flag r.flags ≡ true → min_of r ≡ r.emergency_min
+  pub emergency_minimum_first : (r : Resource) → on_line r ≡ true → emergency_minimum_flag r.flags ≡ true → min_of r ≡ pos r.emergency_min
   -- a flowgate's sign in the LMP
   pub flowgate_sign : (c : Case) (y : Prices) (i : ℕ) → c.flowgates ≡ 1 → lmp_of c y i ≡ y balance_row -ℤ y (flowgate_row 0) *ℤ c.shift_factor 0 i
   -- dividing by the multiplier before multiplying: RAMP is the exact quotient, rounded down, and so is SHARE

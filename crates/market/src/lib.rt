@@ -12,8 +12,13 @@ ghost use Rattle.market.specs.CaseCheck.{CountsWithin};
 ghost use Rattle.market.specs.Certificate.{amounts_place, certificate_size};
 ghost use Rattle.market.specs.Refusals.{number_of, place_of, answer_of, result_of, count_of};
 
-// ---- how many of each kind document 01 has: demand curves and the steps of one, reserves, energy steps and services of a resource
-pub const CURVES: usize = 4;
+mod version;
+
+pub use version::{UnknownVersion, Version};
+
+// ---- how many there are of each kind in every version; `Version` has what differs
+// Demand curves that have a row and a requirement in each zone, the steps of a curve, reserves, energy steps of a resource.
+pub const ZONED_CURVES: usize = 4;
 
 pub const CURVE_STEPS: usize = 4;
 
@@ -21,113 +26,82 @@ pub const RESERVES: usize = 3;
 
 pub const ENERGY_STEPS: usize = 10;
 
-pub const SERVICES: usize = 5;
+// A zone's reserve rows.
+pub const ZONE_ROWS: usize = ZONED_CURVES;
 
-// ---- limits, and the sizes of the two files' parts in bytes
+// Prices that the call for prices writes of a zone: regulating, spinning, supplemental, short-term.
+pub const ZONE_PRICES: usize = 4;
+
+// ---- limits, and the sizes of the two files' parts in bytes that are the same in every version
 pub const MOST_RESOURCES: usize = 64;
 
 pub const MOST_ZONES: usize = 8;
 
 pub const MOST_FLOWGATES: usize = 12;
 
-// Of a case.
-pub const HEAD_SIZE: usize = 170;
+// Of a case. One that is shorter than the least is refused by 1.
+pub const LEAST_CASE_SIZE: usize = 170;
 
-pub const ZONE_SIZE: usize = 16;
-
-pub const RESOURCE_SIZE: usize = 154;
-
-pub const FLOWGATE_HEAD_SIZE: usize = 4;
+pub const ZONE_SIZE: usize = 4 * ZONED_CURVES;
 
 pub const FACTOR_SIZE: usize = 2;
 
-// Steps: the energy steps of a resource stand at these places of it, the demand curves at these places of the case, the
-// price of a step after its width.
+// An offer step or a demand curve step: its width, then its price.
 pub const STEP_SIZE: usize = 8;
-
-pub const OFFER_WIDTHS: usize = 74;
-
-pub const OFFER_PRICES: usize = OFFER_WIDTHS + 4;
 
 pub const CURVE_SIZE: usize = CURVE_STEPS * STEP_SIZE;
 
-pub const CURVE_WIDTHS: usize = 42;
-
-pub const CURVE_PRICES: usize = CURVE_WIDTHS + 4;
-
-pub const LARGEST_CASE_SIZE: usize = HEAD_SIZE
+// The largest case of any version.
+pub const LARGEST_CASE_SIZE: usize = LEAST_CASE_SIZE
     + MOST_ZONES * ZONE_SIZE
-    + MOST_RESOURCES * RESOURCE_SIZE
-    + MOST_FLOWGATES * (FLOWGATE_HEAD_SIZE + MOST_RESOURCES * FACTOR_SIZE);
+    + MOST_RESOURCES * 154
+    + MOST_FLOWGATES * (4 + MOST_RESOURCES * FACTOR_SIZE);
 
-// Of a certificate.
-pub const CERTIFICATE_HEAD_SIZE: usize = 44;
+// Of a certificate. One that is shorter than the least is refused by 8.
+pub const LEAST_CERTIFICATE_SIZE: usize = 44;
 
-pub const ZONE_PRICES_SIZE: usize = 16;
+pub const ZONE_PRICES_SIZE: usize = 4 * ZONED_CURVES;
 
 pub const FLOWGATE_PRICE_SIZE: usize = 4;
-
-pub const ENTRY_SIZE: usize = 40;
-
-// ---- how many rows, charges and prices there are
-// Row 1 with the market's reserve rows; a zone's reserve rows; a resource's own.
-pub const SYSTEM_ROWS: usize = 1 + CURVES;
-
-pub const ZONE_ROWS: usize = CURVES;
-
-pub const RESOURCE_ROWS: usize = 5;
-
-// What is priced: a resource's steps and its services but energy, and the steps of the curves.
-pub const RESOURCE_PRICED: usize = ENERGY_STEPS + SERVICES - 1;
-
-pub const CURVE_PRICED: usize = CURVES * CURVE_STEPS;
-
-// A charge for each row and for all that is priced.
-pub const SYSTEM_CHARGES: usize = SYSTEM_ROWS + CURVE_PRICED;
-
-pub const RESOURCE_CHARGES: usize = RESOURCE_ROWS + RESOURCE_PRICED;
-
-// Regulating, spinning, supplemental, short-term.
-pub const ZONE_PRICES: usize = 4;
 
 // ---- where a part stands, after the others
 
 // Flowgate f of a case, after its zones and resources.
-pub fn flowgate_place(resources: usize, zones: usize, f: usize) -> usize
+pub fn flowgate_place(version: Version, resources: usize, zones: usize, f: usize) -> usize
     requires { CountsWithin resources zones f }
-    ensures { result ≡ flowgate_place resources zones f }
+    ensures { result ≡ flowgate_place version resources zones f }
 {
-    HEAD_SIZE
+    version.head_size()
         + zones * ZONE_SIZE
-        + resources * RESOURCE_SIZE
-        + f * (FLOWGATE_HEAD_SIZE + resources * FACTOR_SIZE)
+        + resources * version.resource_size()
+        + f * (version.flowgate_head_size() + resources * FACTOR_SIZE)
 }
 
 // What a certificate says of resource i, after its zones and flowgates.
-pub fn amounts_place(zones: usize, flowgates: usize, i: usize) -> usize
+pub fn amounts_place(version: Version, zones: usize, flowgates: usize, i: usize) -> usize
     requires { CountsWithin i zones flowgates }
-    ensures { result ≡ amounts_place zones flowgates i }
+    ensures { result ≡ amounts_place version zones flowgates i }
 {
-    CERTIFICATE_HEAD_SIZE
+    version.certificate_head_size()
         + zones * ZONE_PRICES_SIZE
         + flowgates * FLOWGATE_PRICE_SIZE
-        + i * ENTRY_SIZE
+        + i * version.entry_size()
 }
 
 // ---- how many bytes a file of these counts has
 
 pub fn case_size(n: Counts) -> usize
     requires { CountsWithin n.resources n.zones n.flowgates }
-    ensures { result ≡ case_size n.resources n.zones n.flowgates }
+    ensures { result ≡ case_size n.version n.resources n.zones n.flowgates }
 {
-    flowgate_place(n.resources, n.zones, n.flowgates)
+    flowgate_place(n.version, n.resources, n.zones, n.flowgates)
 }
 
 pub fn certificate_size(n: Counts) -> usize
     requires { CountsWithin n.resources n.zones n.flowgates }
-    ensures { result ≡ certificate_size n.resources n.zones n.flowgates }
+    ensures { result ≡ certificate_size n.version n.resources n.zones n.flowgates }
 {
-    amounts_place(n.zones, n.flowgates, n.resources)
+    amounts_place(n.version, n.zones, n.flowgates, n.resources)
 }
 
 // ---- units
@@ -449,7 +423,7 @@ pub enum Curve {
 }
 
 impl Curve {
-    pub const ALL: [Curve; CURVES] = [
+    pub const ALL: [Curve; ZONED_CURVES] = [
         Curve::Operating,
         Curve::RegulatingPlusSpinning,
         Curve::Regulating,
@@ -498,9 +472,10 @@ impl Reserve {
     }
 }
 
-// What a case file counts: resources, zones, flowgates.
+// What a file says of itself: its version, and how many resources, zones and flowgates it has.
 #[derive(Clone, Copy, Drop, PartialEq, Eq)]
 pub struct Counts {
+    pub version: Version,
     pub resources: usize,
     pub zones: usize,
     pub flowgates: usize,
