@@ -124,7 +124,7 @@ fn curves_right(head: &CaseHead<'_>) -> bool
     Curve::ALL.iter().all(|curve| curve_right(head, *curve))
 }
 
-#[tactic(auto, unfolding(market::specs::CaseCheck::steps_rule, market::specs::CaseFile::case_of))]
+#[tactic(auto, unfolding(market::specs::CaseCheck::steps_rule, market::specs::CaseFile::case_as))]
 fn steps_right(case: &SizedCase<'_>) -> bool
     ensures { result ≡ steps_rule (case_in case.now) }
 {
@@ -242,7 +242,7 @@ fn grounds_stage(case: &SizedCase<'_>, n: Counts) -> Result<Counts, Refusal>
 }
 
 // 5 and 6 of the head.
-#[tactic(auto, unfolding(market::specs::CaseFile::case_of))]
+#[tactic(auto, unfolding(market::specs::CaseFile::case_as))]
 fn head_right(head: &CaseHead<'_>) -> bool
     ensures { result ≡ head_right (head_of head.now) }
 {

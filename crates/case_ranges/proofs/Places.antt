@@ -8,7 +8,7 @@ use Rattle.arith.specs.Sums.{upto, all}
 use Rattle.arith.proofs.AllTests.{and_assoc, and_true}
 use Rattle.market.specs.Bytes.{u32_at, within, u8_at}
 use Rattle.market.specs.Case.{Resource, reserves, curves}
-use Rattle.market.specs.CaseFile.{resource_at, flowgate_place, case_of, zone_place, resource_place}
+use Rattle.market.specs.CaseFile.{resource_at, flowgate_place, case_of, zone_place, resource_place, case_as}
 use Rattle.market.specs.CaseCheck.{powers, ramps, reserve_prices, reserve_in_range, flowgate_in_range, fields_in_range, resource_in_range}
 use Rattle.wire.specs.CaseBytes.{CaseBytes}
 use Rattle.case_ranges.specs.Pieces.{number_at_most, curve_in_range, zone_in_range, resource_numbered_in_range, flowgate_in_range_at}
@@ -37,24 +37,24 @@ module _ (b : List ℕ) (p most : ℕ) where
 
 -- four numbers one behind the other are a zone's requirements
 pub zone_run : (b : List ℕ) (z : ℕ) → all (number_at_most 2000000 b (zone_place z)) (upto 4) ≡ zone_in_range (case_of b) z
-unfolding case_of all upto
+unfolding case_as all upto
 zone_run b z = refl
 
 -- what stands at resource i's place is the case's resource
 pub resource_is : (b : List ℕ) {z : ℕ} → z ≡ u8_at b 6 → (i : ℕ) → resource_at b (resource_place z i) ≡ (case_of b).resource i
-unfolding case_of
+unfolding case_as
 resource_is b h i = rw h
 
 pub resource_here : (b : List ℕ) {z : ℕ} → z ≡ u8_at b 6 → (i : ℕ) → resource_in_range z (resource_at b (resource_place z i)) ≡ resource_numbered_in_range (case_of b) i
-unfolding case_of
+unfolding case_as
 resource_here b h i = rw h
 
 -- and at flowgate f's place, the case's flowgate
 pub flowgate_here : {b : List ℕ} {r z n : ℕ} → CaseBytes b r z n → (f : ℕ) → flowgate_in_range_at b (flowgate_place r z f) r ≡ flowgate_in_range (case_of b) f
-unfolding case_of flowgate_in_range
+unfolding case_as flowgate_in_range
 flowgate_here h f = rw (h.resources, h.zones)
 
 -- ground 5 as the code goes through it
 pub fields_in_turn : {b : List ℕ} {r z f : ℕ} → CaseBytes b r z f → fields_in_range (case_of b) ≡ (within 0 128000000 (u32_at b 8) && all (reserve_in_range (case_of b)) reserves && all (curve_in_range (case_of b)) curves && all (zone_in_range (case_of b)) (upto z) && all (resource_numbered_in_range (case_of b)) (upto r) && all (flowgate_in_range (case_of b)) (upto f))
-unfolding fields_in_range case_of
+unfolding fields_in_range case_as
 fields_in_turn {b} h = rw (h.resources, h.zones, h.flowgates)

@@ -204,7 +204,7 @@ pub fn flowgates_in_range(case: &SizedCase<'_>) -> bool
 }
 
 // ---- the whole file
-#[tactic(auto, unfolding(market::specs::CaseCheck::fields_in_range, market::specs::CaseFile::case_of))]
+#[tactic(auto, unfolding(market::specs::CaseCheck::fields_in_range, market::specs::CaseFile::case_as))]
 pub fn fields_in_range(case: &SizedCase<'_>) -> bool
     ensures { result ≡ fields_in_range (case_in case.now) }
 {

@@ -87,7 +87,7 @@ impl<'a> SizedCase<'a> {
         case_records::resource_bytes(self.bytes, self.zones, i)
     }
 
-    #[tactic(auto, unfolding(market::specs::CaseFile::case_of))]
+    #[tactic(auto, unfolding(market::specs::CaseFile::case_as))]
     pub fn resource(&self, i: usize) -> Resource
         requires { i < self.now.resources }
         ensures { result ≡ record_of ((case_in self.now).resource i) }
@@ -96,7 +96,7 @@ impl<'a> SizedCase<'a> {
     }
 
     // The energy steps of resource i.
-    #[tactic(auto, unfolding(market::specs::CaseFile::case_of))]
+    #[tactic(auto, unfolding(market::specs::CaseFile::case_as))]
     pub fn offer_steps(&self, i: usize) -> OfferSteps
         requires { i < self.now.resources }
         ensures { result ≡ offer_steps_of ((case_in self.now).resource i) }
@@ -116,7 +116,7 @@ impl<'a> SizedCase<'a> {
         case_records::flowgate_bytes(self.bytes, self.resources, self.zones, f)
     }
 
-    #[tactic(auto, unfolding(market::specs::CaseFile::case_of))]
+    #[tactic(auto, unfolding(market::specs::CaseFile::case_as))]
     pub fn flowgate_limit(&self, f: usize) -> Kw
         requires { f < self.now.flowgates }
         ensures { result ≡ kw ((case_in self.now).flowgate_limit f) }
@@ -124,7 +124,7 @@ impl<'a> SizedCase<'a> {
         Kw(self.flowgate_bytes(f).limit())
     }
 
-    #[tactic(auto, unfolding(market::specs::CaseFile::case_of))]
+    #[tactic(auto, unfolding(market::specs::CaseFile::case_as))]
     pub fn shift_factor(&self, f: usize, i: usize) -> ShiftFactor
         requires { (f < self.now.flowgates) × (i < self.now.resources) }
         ensures { result ≡ shift_factor ((case_in self.now).shift_factor f i) }

@@ -11,6 +11,7 @@ use Rattle.market.specs.declared.Reserve.{Reserve}
 use Rattle.market.specs.CaseFile.{case_of}
 use Rattle.market.specs.Records.{offer_step_of, offer_steps_of, curve_step_of, curve_steps_of, state_of, output_limits_of, ramps_of, other_powers_of, reserve_offers_of, record_of, reserve_terms_of, zone_requirements_of}
 use Rattle.market.specs.Outcome.{Valid}
+use Rattle.market.proofs.Versions.{all_four_curves}
 use Rattle.market.proofs.Ranges.{CaseRanges, ResourceRanges, ReserveRanges, valid_ranges}
 use Rattle.case_records.specs.Ranged.{UpTo, offer_step, curve_step, RangedLimits, RangedRamps, RangedOtherPowers, RangedOffers, RangedSteps, Ranged, RangedTerms, RangedCurve, RangedZone}
 
@@ -112,18 +113,18 @@ pub curve_ranged : {c : Case} → CaseRanges c → (k : Curve) → RangedCurve (
 unfolding curve_step_of
 curve_ranged {c} h k =
     record {
-      width = λ j l. rw (curve_step_is c k j l) (up_to (h.curve_width k j l));
-      price = λ j l. rw (curve_step_is c k j l) (up_to (h.curve_price k j l));
+      width = λ j l. rw (curve_step_is c k j l) (up_to (h.curve_width k (all_four_curves c.version k) j l));
+      price = λ j l. rw (curve_step_is c k j l) (up_to (h.curve_price k (all_four_curves c.version k) j l));
     }
 
 pub zone_ranged : {c : Case} → CaseRanges c → (z : ℕ) → z < c.zones → RangedZone (zone_requirements_of c z)
 unfolding zone_requirements_of
 zone_ranged {c} h z l =
     record {
-      operating = up_to (h.zone_requirement z operating l);
-      regulating_plus_spinning = up_to (h.zone_requirement z regulating_plus_spinning l);
-      regulating = up_to (h.zone_requirement z regulating l);
-      short_term = up_to (h.zone_requirement z short_term l);
+      operating = up_to (h.zone_requirement z operating l tt);
+      regulating_plus_spinning = up_to (h.zone_requirement z regulating_plus_spinning l tt);
+      regulating = up_to (h.zone_requirement z regulating l tt);
+      short_term = up_to (h.zone_requirement z short_term l tt);
     }
 
 -- ---- of the bytes of a valid case

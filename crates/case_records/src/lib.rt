@@ -5,15 +5,15 @@
 ghost use Rattle.std.specs.Prelude.{◌≡◌, ◌<◌};
 ghost use Rattle.wire.specs.CaseParts.{head_of, figures_of};
 ghost use Rattle.market.specs.Case.{curve_steps, energy_steps};
+ghost use Rattle.market.specs.Version.{version_in};
 ghost use Rattle.market.specs.CaseFile.{resource_place, flowgate_place, case_of};
 ghost use Rattle.market.specs.Records.{power, offer_step_of, offer_steps_of, state_of, output_limits_of, ramps_of, other_powers_of, reserve_offers_of, record_of, reserve_terms_of, terms_of, curve_step_of, curve_steps_of, zone_requirements_of};
 ghost use Rattle.case_records.specs.Places.{ZoneIn, ResourceIn, FlowgateIn};
 
 use market::{
-    Breaker, Cents, Curve, CurveAmounts, CurveSteps, FACTOR_SIZE, FLOWGATE_HEAD_SIZE, Flags,
-    HEAD_SIZE, Kind, Kw, Minutes, OfferSteps, OtherPowers, OutputLimits, RESOURCE_SIZE, Ramps,
-    Reserve, ReserveOffers, ReserveTerms, Resource, State, Status, Step, Terms, Thousandths,
-    ZONE_SIZE,
+    Breaker, Cents, Curve, CurveAmounts, CurveSteps, FACTOR_SIZE, Flags, Kind, Kw, Minutes,
+    OfferSteps, OtherPowers, OutputLimits, Ramps, Reserve, ReserveOffers, ReserveTerms, Resource,
+    State, Status, Step, Terms, Thousandths, ZONE_SIZE,
 };
 use wire::{CaseHead, FlowgateBytes, ResourceBytes};
 
@@ -30,7 +30,7 @@ fn state_of(resource: &ResourceBytes<'_>) -> State
         breaker: Breaker::from(resource.u8(2)),
         trip: Minutes(u32::from(resource.u8(4))),
         flags: Flags::from(resource.u8(5)),
-        output: resource.signed_figure(6),
+        output: resource.signed_figure(resource.behind_flags(6)),
         status: Status::masked(resource.u8(3)),
     }
 }
@@ -40,12 +40,12 @@ fn limits_of(resource: &ResourceBytes<'_>) -> OutputLimits
     ensures { result ≡ output_limits_of (figures_of resource.now) }
 {
     OutputLimits {
-        economic_min: resource.figure(10),
-        economic_max: resource.figure(14),
-        regulating_min: resource.figure(18),
-        regulating_max: resource.figure(22),
-        emergency_min: resource.figure(26),
-        emergency_max: resource.figure(30),
+        economic_min: resource.figure(resource.behind_flags(10)),
+        economic_max: resource.figure(resource.behind_flags(14)),
+        regulating_min: resource.figure(resource.behind_flags(18)),
+        regulating_max: resource.figure(resource.behind_flags(22)),
+        emergency_min: Kw(i64::from(resource.emergency_min())),
+        emergency_max: resource.figure(resource.behind_minimum(26)),
     }
 }
 
@@ -54,9 +54,9 @@ fn ramps_of(resource: &ResourceBytes<'_>) -> Ramps
     ensures { result ≡ ramps_of (figures_of resource.now) }
 {
     Ramps {
-        up: resource.figure(34),
-        down: resource.figure(38),
-        rate: resource.figure(42),
+        up: resource.figure(resource.behind_minimum(30)),
+        down: resource.figure(resource.behind_minimum(34)),
+        rate: resource.figure(resource.behind_minimum(38)),
     }
 }
 
@@ -65,10 +65,10 @@ fn other_powers_of(resource: &ResourceBytes<'_>) -> OtherPowers
     ensures { result ≡ other_powers_of (figures_of resource.now) }
 {
     OtherPowers {
-        initial: resource.figure(46),
-        off_line_response: resource.figure(50),
-        off_line_short_term: resource.figure(54),
-        self_schedule: resource.figure(58),
+        initial: resource.figure(resource.behind_minimum(42)),
+        off_line_response: resource.figure(resource.behind_minimum(46)),
+        off_line_short_term: resource.figure(resource.behind_minimum(50)),
+        self_schedule: resource.figure(resource.behind_minimum(54)),
     }
 }
 
@@ -77,9 +77,9 @@ fn reserve_offers_of(resource: &ResourceBytes<'_>) -> ReserveOffers
     ensures { result ≡ reserve_offers_of (figures_of resource.now) }
 {
     ReserveOffers {
-        regulating: resource.figure(62),
-        contingency: resource.figure(66),
-        off_line_short_term: resource.figure(70),
+        regulating: resource.figure(resource.behind_minimum(58)),
+        contingency: resource.figure(resource.behind_minimum(62)),
+        off_line_short_term: resource.figure(resource.behind_minimum(66)),
     }
 }
 
@@ -119,24 +119,26 @@ pub fn record_of(resource: &ResourceBytes<'_>) -> Resource
 pub fn resource_bytes(b: &[u8], zones: usize, i: usize) -> ResourceBytes<'_>
     requires { ResourceIn b.now zones i }
     ensures bytes { result.bytes ≡ b.entry }
-    ensures at { result.at ≡ resource_place zones i }
+    ensures at { result.at ≡ resource_place (version_in b.now) zones i }
 {
-    ResourceBytes::new(b, HEAD_SIZE + zones * ZONE_SIZE + i * RESOURCE_SIZE)
+    let version = wire::version_at(b);
+    let first = version.head_size() + zones * ZONE_SIZE;
+    ResourceBytes::new(b, first + i * version.resource_size())
 }
 
 // ---- zones, counted from 0
 
-#[tactic(auto, unfolding(market::specs::Records::zone_requirements_of, market::specs::CaseFile::case_of))]
+#[tactic(auto, unfolding(market::specs::Records::zone_requirements_of, market::specs::CaseFile::case_as))]
 pub fn zone_at(b: &[u8], z: usize) -> CurveAmounts
     requires { ZoneIn b.now z }
     ensures { result ≡ zone_requirements_of (case_of b.now) z }
 {
-    wire::per_curve_at(b, HEAD_SIZE + z * ZONE_SIZE)
+    wire::per_curve_at(b, wire::version_at(b).head_size() + z * ZONE_SIZE)
 }
 
 // ---- the head of a case: demand, reserve terms, demand curves
 
-#[tactic(auto, unfolding(market::specs::CaseFile::case_of))]
+#[tactic(auto, unfolding(market::specs::CaseFile::case_as))]
 pub fn demand(head: &CaseHead<'_>) -> Kw
     ensures { result ≡ power (head_of head.now).demand }
 {
@@ -194,12 +196,13 @@ pub fn curve_at(head: &CaseHead<'_>, curve: Curve) -> CurveSteps
 pub fn flowgate_bytes(b: &[u8], resources: usize, zones: usize, f: usize) -> FlowgateBytes<'_>
     requires { FlowgateIn b.now resources zones f }
     ensures bytes { result.bytes ≡ b.entry }
-    ensures at { result.at ≡ flowgate_place resources zones f }
+    ensures at { result.at ≡ flowgate_place (version_in b.now) resources zones f }
     ensures resources { result.resources ≡ resources }
 {
-    let at = HEAD_SIZE
+    let version = wire::version_at(b);
+    let at = version.head_size()
         + zones * ZONE_SIZE
-        + resources * RESOURCE_SIZE
-        + f * (FLOWGATE_HEAD_SIZE + resources * FACTOR_SIZE);
+        + resources * version.resource_size()
+        + f * (version.flowgate_head_size() + resources * FACTOR_SIZE);
     FlowgateBytes::new(b, at, resources)
 }

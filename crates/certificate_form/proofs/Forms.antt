@@ -10,7 +10,7 @@ use Rattle.market.specs.declared.Counts.{Counts}
 use Rattle.market.specs.Bytes.{u8_at, u32_at}
 use Rattle.market.specs.Case.{Case}
 use Rattle.market.specs.CaseCheck.{length_right}
-use Rattle.market.specs.Certificate.{least_certificate_size, certificate_of, certificate_size}
+use Rattle.market.specs.Certificate.{least_certificate_size, certificate_of, certificate_size, certificate_as}
 use Rattle.market.specs.Records.{counts_in}
 use Rattle.market.specs.Refusals.{AllClear}
 use Rattle.market.specs.Outcome.{same_counts, form_grounds}
@@ -28,7 +28,7 @@ length_from q e =
 -- ---- 10 and 11 of the case's counts by value
 module _ (q : List ℕ) {n : Counts} (c : Case) (e : n ≡ counts_in c) where
   pub counts_are_lem : counts_are q n ≡ same_counts c (certificate_of q)
-  unfolding counts_are same_counts certificate_of
+  unfolding counts_are same_counts certificate_as
   counts_are_lem = ap (λ (m : Counts). counts_are q m) e
 
   pub size_is_lem : size_is q n ≡ eqb (length q) (certificate_size c.resources c.zones c.flowgates)
@@ -37,7 +37,7 @@ module _ (q : List ℕ) {n : Counts} (c : Case) (e : n ≡ counts_in c) where
 
 -- ---- a file past them, for a case whose counts are in range
 pub form_bytes : (q : List ℕ) (c : Case) → CountRanges c → AllClear (form_grounds c q (certificate_of q)) → CertificateBytes q c.resources c.zones c.flowgates
-unfolding same_counts certificate_of
+unfolding same_counts certificate_as
 form_bytes q c h clear =
     let passed = form_passed c q (certificate_of q) clear in
     let counts = and-each (eqb (u8_at q 5) c.resources) (eqb (u8_at q 6) c.zones ∷ eqb (u8_at q 7) c.flowgates ∷ []) passed.same_counts in

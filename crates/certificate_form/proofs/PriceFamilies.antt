@@ -10,7 +10,7 @@ use Rattle.arith.proofs.AllTests.{all_append, all_map, all-across}
 use Rattle.market.specs.declared.Counts.{Counts}
 use Rattle.market.specs.Bytes.{u32_at, i32_at, within, within_ℤ}
 use Rattle.market.specs.Case.{Case, curves}
-use Rattle.market.specs.Certificate.{zone_prices_place, amounts_place, price_at, certificate_of}
+use Rattle.market.specs.Certificate.{zone_prices_place, amounts_place, price_at, certificate_of, certificate_as}
 use Rattle.market.specs.Records.{counts_in}
 use Rattle.market.specs.Rows.{Row, balance_row, zone_row, flowgate_row, limit_row, limits, market_rows, zone_rows, flowgate_rows, limit_rows, rows}
 use Rattle.market.specs.Outcome.{price_right}
@@ -26,24 +26,24 @@ module _ (q : List ℕ) where
   right = price_right (certificate_of q)
 
   balance_run : right balance_row ≡ within_ℤ (neg_ℤ (pos 400000000)) (pos 400000000) (i32_at q 24)
-  unfolding certificate_of price_at
+  unfolding certificate_as price_at
   balance_run = refl
 
   market_run : all right market_rows ≡ all (number_at_most 400000000 q 28) (upto 4)
-  unfolding all upto certificate_of price_at
+  unfolding all upto certificate_as price_at
   market_run = refl
 
   zone_run : (z : ℕ) → all right (map (zone_row z) curves) ≡ zone_priced q z
-  unfolding all upto certificate_of price_at
+  unfolding all upto certificate_as price_at
   zone_run z = refl
 
   module _ (r z f : ℕ) (h : CertificateBytes q r z f) where
     flowgate_run : (g : ℕ) → right (flowgate_row g) ≡ number_at_most 400000 q (zone_prices_place z) g
-    unfolding certificate_of price_at
+    unfolding certificate_as price_at
     flowgate_run g = rw h.zones_are
 
     limit_run : (i : ℕ) → all right (map (limit_row i) limits) ≡ limits_priced q z f i
-    unfolding all upto certificate_of price_at
+    unfolding all upto certificate_as price_at
     limit_run i =
         let p = amounts_place z f i in
         let e₀ : p + 20 ≡ p + 20 + 0 = omega arith in

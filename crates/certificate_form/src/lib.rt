@@ -21,7 +21,7 @@ use certificate_records::SizedCertificate;
 use market::{CERTIFICATE_HEAD_SIZE, Counts, Refusal, ZONE_PRICES_SIZE};
 
 // ---- 8 to 11: the file's form
-#[tactic(auto, unfolding(crate::specs::Form::counts_are, market::specs::CaseFile::case_of))]
+#[tactic(auto, unfolding(crate::specs::Form::counts_are, market::specs::CaseFile::case_as))]
 fn same_counts(q: &[u8], n: Counts) -> bool
     requires { Within q.now 0 certificate_head_size }
     ensures { result ≡ counts_are q.now n }

@@ -41,7 +41,7 @@ impl<'a> SizedCertificate<'a> {
     }
 
     // What resource i is given.
-    #[tactic(auto, unfolding(market::specs::Records::amounts_of, market::specs::Certificate::certificate_of, market::specs::Certificate::amount_at))]
+    #[tactic(auto, unfolding(market::specs::Records::amounts_of, market::specs::Certificate::certificate_as, market::specs::Certificate::amount_at))]
     pub fn amounts(&self, i: usize) -> Amounts
         requires { i < self.now.resources }
         ensures { result ≡ amounts_of (certificate_in self.now).amount i }
@@ -57,7 +57,7 @@ impl<'a> SizedCertificate<'a> {
     }
 
     // The prices of resource i's own rows.
-    #[tactic(auto, unfolding(market::specs::Records::limit_prices_of, market::specs::Certificate::certificate_of, market::specs::Certificate::price_at))]
+    #[tactic(auto, unfolding(market::specs::Records::limit_prices_of, market::specs::Certificate::certificate_as, market::specs::Certificate::price_at))]
     pub fn limit_prices(&self, i: usize) -> LimitPrices
         requires { i < self.now.resources }
         ensures { result ≡ limit_prices_of (certificate_in self.now).price i }
@@ -73,7 +73,7 @@ impl<'a> SizedCertificate<'a> {
     }
 
     // The cleared quantities.
-    #[tactic(auto, unfolding(market::specs::Records::cleared_of, market::specs::Certificate::certificate_of, market::specs::Certificate::amount_at))]
+    #[tactic(auto, unfolding(market::specs::Records::cleared_of, market::specs::Certificate::certificate_as, market::specs::Certificate::amount_at))]
     pub fn cleared(&self) -> CurveAmounts
         ensures { result ≡ cleared_of (certificate_in self.now).amount }
     {
@@ -81,7 +81,7 @@ impl<'a> SizedCertificate<'a> {
     }
 
     // The prices of the market-wide reserve rows.
-    #[tactic(auto, unfolding(market::specs::Records::reserve_prices_of, market::specs::Certificate::certificate_of, market::specs::Certificate::price_at))]
+    #[tactic(auto, unfolding(market::specs::Records::reserve_prices_of, market::specs::Certificate::certificate_as, market::specs::Certificate::price_at))]
     pub fn market_prices(&self) -> ReservePrices
         ensures { result ≡ reserve_prices_of (certificate_in self.now).price market_row }
     {
@@ -89,7 +89,7 @@ impl<'a> SizedCertificate<'a> {
     }
 
     // The prices of a zone's reserve rows, zones counted from 0.
-    #[tactic(auto, unfolding(market::specs::Records::reserve_prices_of, market::specs::Certificate::certificate_of, market::specs::Certificate::price_at))]
+    #[tactic(auto, unfolding(market::specs::Records::reserve_prices_of, market::specs::Certificate::certificate_as, market::specs::Certificate::price_at))]
     pub fn zone_prices(&self, zone: usize) -> ReservePrices
         requires { zone < self.now.zones }
         ensures { result ≡ reserve_prices_of (certificate_in self.now).price (zone_row zone) }
@@ -98,7 +98,7 @@ impl<'a> SizedCertificate<'a> {
     }
 
     // The price of row 1.
-    #[tactic(auto, unfolding(market::specs::Certificate::certificate_of, market::specs::Certificate::price_at))]
+    #[tactic(auto, unfolding(market::specs::Certificate::certificate_as, market::specs::Certificate::price_at))]
     pub fn balance_price(&self) -> Millicents
         ensures { result ≡ millicents ((certificate_in self.now).price balance_row) }
     {
@@ -106,7 +106,7 @@ impl<'a> SizedCertificate<'a> {
     }
 
     // The price of a flowgate's row, in cents, flowgates counted from 0.
-    #[tactic(auto, unfolding(market::specs::Certificate::certificate_of, market::specs::Certificate::price_at))]
+    #[tactic(auto, unfolding(market::specs::Certificate::certificate_as, market::specs::Certificate::price_at))]
     pub fn flowgate_price(&self, flowgate: usize) -> Cents
         requires { flowgate < self.now.flowgates }
         ensures { result ≡ cents ((certificate_in self.now).price (flowgate_row flowgate)) }

@@ -10,7 +10,7 @@ use Rattle.arith.proofs.Lists.{each_split}
 use Rattle.market.specs.declared.Refusal.{Refusal}
 use Rattle.market.specs.declared.Refusal.TheVariants as R
 use Rattle.market.specs.declared.Counts.{Counts}
-use Rattle.market.specs.CaseFile.{case_of}
+use Rattle.market.specs.CaseFile.{case_of, case_as}
 use Rattle.market.specs.Certificate.{certificate_of}
 use Rattle.market.specs.Records.{counts_in}
 use Rattle.market.specs.Rows.{rows}
@@ -42,7 +42,7 @@ module _ {A : Type 0} (n : A) (gs : List Finding) where
 -- ---- past 1 to 11
 module _ (b q : List ℕ) where
   case_bytes : Valid b → CaseBytes b (case_of b).resources (case_of b).zones (case_of b).flowgates
-  unfolding case_of
+  unfolding case_as
   case_bytes v = valid_bytes b v
 
   filing : Valid b → AllClear (form_grounds (case_of b) q (certificate_of q)) → FiledWith b q (counts_in (case_of b))

@@ -4,7 +4,7 @@ use mathlib.Core.List.{List}
 use Prim.Native.Nat.{ℕ}
 use Rattle.market.specs.declared.Counts.{Counts}
 use Rattle.market.specs.Bytes.{u8_at}
-use Rattle.market.specs.CaseFile.{case_of}
+use Rattle.market.specs.CaseFile.{case_of, case_as}
 use Rattle.market.specs.Records.{counts_in}
 use Rattle.market.specs.Refusals.{clear, first_of}
 use Rattle.market.specs.Numbers.{certificate_file_grounds}
@@ -20,7 +20,7 @@ use Rattle.read_numbers.specs.FileBytes.{FileBytes}
 use Rattle.read_numbers.specs.Reading.{filed_counts, reading_grounds}
 
 past : (file : File) (b : List ℕ) → first_of (reading_grounds file b) ≡ clear → FileBytes file b (u8_at b 5) (u8_at b 6) (u8_at b 7)
-unfolding case_of
+unfolding case_as
 past Case b h =
     let c = passed_bytes b (counts_in (case_of b)) (ap (answered (counts_in (case_of b))) h) in
     record {

@@ -14,7 +14,7 @@ use market::{CERTIFICATE_HEAD_SIZE, Counts, Refusal};
 
 // 8, 9, 3, 11: no case is lent.
 // `case_check::shape_stage` has other grounds, in another order and by other numbers: one function for both would take all of them.
-#[tactic(auto, unfolding(market::specs::Numbers::certificate_file_grounds, market::specs::Refusals::first_of, market::specs::CaseFile::case_of, certificate_form::specs::Form::size_is))]
+#[tactic(auto, unfolding(market::specs::Numbers::certificate_file_grounds, market::specs::Refusals::first_of, market::specs::CaseFile::case_as, certificate_form::specs::Form::size_is))]
 fn certificate_stage(q: &[u8]) -> Result<Counts, Refusal>
     ensures { result ≡ answered (filed_counts q.now) (first_of (certificate_file_grounds q.now)) }
 {

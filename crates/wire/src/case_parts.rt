@@ -4,13 +4,11 @@
 ghost use Rattle.std.specs.Prelude.{◌≡◌, ◌+◌, ◌*◌, ◌<◌, ◌≤◌, pos};
 ghost use Rattle.market.specs.Bytes.{u8_at, u32_at, i16_at, i32_at, signed};
 ghost use Rattle.market.specs.Case.{curve_steps, energy_steps};
-ghost use Rattle.market.specs.CaseFile.{head_size, resource_size, flowgate_size, flowgate_head_size, factor_size};
+ghost use Rattle.market.specs.Version.{version_in};
+ghost use Rattle.market.specs.CaseFile.{behind_flags, behind_minimum, head_size, resource_size, flowgate_size, flowgate_head_size, factor_size};
 ghost use Rattle.wire.specs.Within.{Within};
 
-use market::{
-    CURVE_PRICES, CURVE_SIZE, CURVE_WIDTHS, Curve, FACTOR_SIZE, FLOWGATE_HEAD_SIZE, OFFER_PRICES,
-    OFFER_WIDTHS, Reserve, STEP_SIZE, Unit,
-};
+use market::{CURVE_SIZE, Curve, FACTOR_SIZE, Reserve, STEP_SIZE, Unit};
 
 // A step as its file has it: the width, and the price's number of 32 bits.
 #[derive(Clone, Copy)]
@@ -32,20 +30,20 @@ pub struct FileTerms {
 #[derive(Clone, Copy)]
 pub struct CaseHead<'a> {
     pub bytes: &'a [u8],
-    pub ghost within: { Within bytes.now 0 head_size },
+    pub ghost within: { Within bytes.now 0 (head_size (version_in bytes.now)) },
 }
 
 impl<'a> CaseHead<'a> {
     ghost use Rattle.wire.specs.CaseParts.{head_of};
 
     pub fn new(bytes: &'a [u8]) -> Self
-        requires { Within bytes.now 0 head_size }
+        requires { Within bytes.now 0 (head_size (version_in bytes.now)) }
         ensures { result.bytes ≡ bytes.entry }
     {
         CaseHead { bytes }
     }
 
-    #[tactic(auto, using(crate::proofs::HeadPlaces::pair_in_head, crate::proofs::HeadPlaces::order_of_three), unfolding(market::specs::CaseFile::case_of))]
+    #[tactic(auto, using(crate::proofs::HeadPlaces::pair_in_head, crate::proofs::HeadPlaces::order_of_three), unfolding(market::specs::CaseFile::case_as))]
     pub fn terms(&self, reserve: Reserve) -> FileTerms
         ensures multiplier { result.multiplier ≡ (head_of self.now).multiplier reserve }
         ensures minutes { result.minutes ≡ (head_of self.now).minutes reserve }
@@ -63,16 +61,17 @@ impl<'a> CaseHead<'a> {
     }
 
     // Step j of a demand curve.
-    #[tactic(auto, using(market::proofs::CurveNumbers::number_below_4), unfolding(market::specs::CaseFile::case_of))]
+    #[tactic(auto, using(market::proofs::CurveNumbers::number_below_4), unfolding(market::specs::CaseFile::case_as))]
     pub fn step(&self, curve: Curve, j: usize) -> FileStep
         requires { j < curve_steps }
         ensures width { result.width ≡ (head_of self.now).curve_width curve j }
         ensures price { result.price ≡ (head_of self.now).curve_price curve j }
     {
-        let at = curve.number() * CURVE_SIZE + j * STEP_SIZE;
+        let curves = super::version_at(self.bytes).curves_place();
+        let at = curves + curve.number() * CURVE_SIZE + j * STEP_SIZE;
         FileStep {
-            width: super::u32_at(self.bytes, CURVE_WIDTHS + at),
-            price: super::u32_at(self.bytes, CURVE_PRICES + at),
+            width: super::u32_at(self.bytes, at),
+            price: super::u32_at(self.bytes, at + 4),
         }
     }
 }
@@ -82,54 +81,81 @@ impl<'a> CaseHead<'a> {
 pub struct ResourceBytes<'a> {
     pub bytes: &'a [u8],
     pub at: usize,
-    pub ghost within: { Within bytes.now at resource_size },
+    pub ghost within: { Within bytes.now at (resource_size (version_in bytes.now)) },
 }
 
 impl<'a> ResourceBytes<'a> {
     ghost use Rattle.wire.specs.CaseParts.{figures_of};
 
     pub fn new(bytes: &'a [u8], at: usize) -> Self
-        requires { Within bytes.now at resource_size }
+        requires { Within bytes.now at (resource_size (version_in bytes.now)) }
         ensures bytes { result.bytes ≡ bytes.entry }
         ensures at { result.at ≡ at }
     {
         ResourceBytes { bytes, at }
     }
 
+    // Where in the record a field stands that is so far from its beginning without what a version may have before it: a byte after the
+    // flags, or that and the emergency minimum.
+    pub fn behind_flags(&self, offset: usize) -> usize
+        requires { offset ≤ 154 }
+        ensures { result ≡ behind_flags (version_in self.now.bytes.now) offset }
+    {
+        super::version_at(self.bytes).behind_flags(offset)
+    }
+
+    pub fn behind_minimum(&self, offset: usize) -> usize
+        requires { offset ≤ 154 }
+        ensures { result ≡ behind_minimum (version_in self.now.bytes.now) offset }
+    {
+        super::version_at(self.bytes).behind_minimum(offset)
+    }
+
     // The byte at a place of the record; in what follows, the number there.
     pub fn u8(&self, place: usize) -> u8
-        requires { place + 1 ≤ resource_size }
+        requires { place + 1 ≤ resource_size (version_in self.now.bytes.now) }
         ensures { result ≡ u8_at self.now.bytes.now (self.now.at + place) }
     {
         super::u8_at(self.bytes, self.at + place)
     }
 
     pub fn u32(&self, place: usize) -> u32
-        requires { place + 4 ≤ resource_size }
+        requires { place + 4 ≤ resource_size (version_in self.now.bytes.now) }
         ensures { result ≡ u32_at self.now.bytes.now (self.now.at + place) }
     {
         super::u32_at(self.bytes, self.at + place)
     }
 
     pub fn i32(&self, place: usize) -> i64
-        requires { place + 4 ≤ resource_size }
+        requires { place + 4 ≤ resource_size (version_in self.now.bytes.now) }
         ensures { result ≡ i32_at self.now.bytes.now (self.now.at + place) }
     {
         super::i32_at(self.bytes, self.at + place)
     }
 
     pub fn figure<U: Unit>(&self, place: usize) -> U
-        requires { place + 4 ≤ resource_size }
+        requires { place + 4 ≤ resource_size (version_in self.now.bytes.now) }
         ensures { result ≡ U.of (pos (u32_at self.now.bytes.now (self.now.at + place))) }
     {
         super::figure_at(self.bytes, self.at + place)
     }
 
     pub fn signed_figure<U: Unit>(&self, place: usize) -> U
-        requires { place + 4 ≤ resource_size }
+        requires { place + 4 ≤ resource_size (version_in self.now.bytes.now) }
         ensures { result ≡ U.of (i32_at self.now.bytes.now (self.now.at + place)) }
     {
         super::signed_figure_at(self.bytes, self.at + place)
+    }
+
+    // Its emergency minimum, 0 where a version has none.
+    #[tactic(auto, unfolding(market::specs::CaseFile::resource_at))]
+    pub fn emergency_min(&self) -> u32
+        ensures { result ≡ (figures_of self.now).emergency_min }
+    {
+        if !super::version_at(self.bytes).releasing() {
+            return 0;
+        }
+        self.u32(self.behind_flags(26))
     }
 
     // Step j of its energy.
@@ -138,12 +164,13 @@ impl<'a> ResourceBytes<'a> {
         requires { j < energy_steps }
         ensures width { result.width ≡ (figures_of self.now).step_width j }
         ensures price { signed 2147483648 result.price ≡ (figures_of self.now).step_price j }
-        ensures price_number { result.price ≡ u32_at self.now.bytes.now (self.now.at + 78 + j * 8) }
+        ensures price_number { result.price ≡ u32_at self.now.bytes.now (self.now.at + behind_minimum (version_in self.now.bytes.now) 74 + j * 8) }
         ensures number { (result.width < 4294967296) × (result.price < 4294967296) }
     {
+        let at = self.behind_minimum(70) + j * STEP_SIZE;
         FileStep {
-            width: self.u32(OFFER_WIDTHS + j * STEP_SIZE),
-            price: self.u32(OFFER_PRICES + j * STEP_SIZE),
+            width: self.u32(at),
+            price: self.u32(at + 4),
         }
     }
 }
@@ -154,12 +181,12 @@ pub struct FlowgateBytes<'a> {
     pub bytes: &'a [u8],
     pub at: usize,
     pub resources: usize,
-    pub ghost within: { Within bytes.now at (flowgate_size resources) },
+    pub ghost within: { Within bytes.now at (flowgate_size (version_in bytes.now) resources) },
 }
 
 impl<'a> FlowgateBytes<'a> {
     pub fn new(bytes: &'a [u8], at: usize, resources: usize) -> Self
-        requires { Within bytes.now at (flowgate_size resources) }
+        requires { Within bytes.now at (flowgate_size (version_in bytes.now) resources) }
         ensures bytes { result.bytes ≡ bytes.entry }
         ensures at { result.at ≡ at }
         ensures resources { result.resources ≡ resources }
@@ -180,8 +207,9 @@ impl<'a> FlowgateBytes<'a> {
     // The shift factor of resource i.
     pub fn factor(&self, i: usize) -> i64
         requires { i < self.now.resources }
-        ensures { result ≡ i16_at self.now.bytes.now (self.now.at + flowgate_head_size + i * factor_size) }
+        ensures { result ≡ i16_at self.now.bytes.now (self.now.at + flowgate_head_size (version_in self.now.bytes.now) + i * factor_size) }
     {
-        super::i16_at(self.bytes, self.at + FLOWGATE_HEAD_SIZE + i * FACTOR_SIZE)
+        let factors = self.at + super::version_at(self.bytes).flowgate_head_size();
+        super::i16_at(self.bytes, factors + i * FACTOR_SIZE)
     }
 }

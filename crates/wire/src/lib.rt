@@ -5,10 +5,11 @@
 
 ghost use Rattle.std.specs.Prelude.{◌≡◌, ◌+◌, ◌<◌, [], ◌∷◌, pos};
 ghost use Rattle.market.specs.Bytes.{u8_at, u16_at, u32_at, i16_at, i32_at};
+ghost use Rattle.market.specs.Version.{version_in};
 ghost use Rattle.market.specs.Numbers.{u16_bytes, u32_bytes, i16, i32, field_bytes};
 ghost use Rattle.wire.specs.Within.{Within, Signed, written};
 
-use market::{PerCurve, Unit};
+use market::{PerCurve, Unit, Version};
 
 mod case_parts;
 
@@ -47,6 +48,14 @@ pub fn i32_at(b: &[u8], at: usize) -> i64
     ensures { result ≡ i32_at b.now at }
 {
     i64::from(u32_at(b, at).cast_signed())
+}
+
+// The version of a case or a certificate; of one that is not known, the nearest.
+pub fn version_at(b: &[u8]) -> Version
+    requires { Within b.now 4 1 }
+    ensures { result ≡ version_in b.now }
+{
+    Version::nearest(u8_at(b, 4))
 }
 
 // ---- a figure in its unit

@@ -15,7 +15,7 @@ use Rattle.arith.proofs.Order.{zl}
 use Rattle.market.specs.declared.Refusal.{Refusal}
 use Rattle.market.specs.declared.Counts.{Counts}
 use Rattle.market.specs.Bytes.{within_ℤ}
-use Rattle.market.specs.CaseFile.{case_of}
+use Rattle.market.specs.CaseFile.{case_of, case_as}
 use Rattle.market.specs.CaseCheck.{most_resources, most_zones, most_flowgates, CountsWithin}
 use Rattle.market.specs.Records.{counts_in}
 use Rattle.market.specs.Refusals.{clear, first_of}
@@ -84,7 +84,7 @@ module _ (file : File) (vs : List ℤ) where
 -- ---- the case file of a list past 16, 3, 16
 -- its counts are the list's first three numbers
 counts_read : (b : List ℕ) → listed_counts (case_numbers b) ≡ counts_in (case_of b)
-unfolding case_of numbers_of numbers_at field_at case_fields
+unfolding case_as numbers_of numbers_at field_at case_fields
 counts_read b = refl
 
 pub filed : (vs : List ℤ) → first_of (list_grounds case_fields vs) ≡ clear → answered (counts_in (case_of (case_file vs))) (first_of (case_grounds (case_file vs))) ≡ answered (listed_counts vs) (first_of (writing_grounds Case vs))

@@ -1,6 +1,6 @@
-use Rattle.market.specs.CaseFile.{case_of}
+use Rattle.market.specs.CaseFile.{case_as}
 use Rattle.case_check.proofs.counts_at.Goals as goal
 
 pub returns : goal.returns
-unfolding case_of
+unfolding case_as
 returns c = λ i. record { resources = c.count_at.ensures i; zones = c.count_at-2.ensures i; flowgates = c.count_at-3.ensures i }
