@@ -4,12 +4,13 @@
 #![tactic(auto)]
 
 ghost use Rattle.std.specs.Prelude.{◌≡◌, ◌<◌};
+ghost use Rattle.market.specs.Version.{version_in};
 ghost use Rattle.market.specs.CaseFile.{resource_place, flowgate_place};
 ghost use Rattle.market.specs.Records.{kw, shift_factor, power, record_of, offer_steps_of, terms_of, curve_steps_of, zone_requirements_of};
 ghost use Rattle.case_records.specs.Places.{CaseBytes};
 
 use market::{
-    Counts, Curve, CurveAmounts, CurveSteps, Kw, OfferSteps, Resource, ShiftFactor, Terms,
+    Counts, Curve, CurveAmounts, CurveSteps, Kw, OfferSteps, Resource, ShiftFactor, Terms, Version,
 };
 use wire::{CaseHead, FlowgateBytes, ResourceBytes};
 
@@ -39,6 +40,14 @@ impl<'a> SizedCase<'a> {
             zones: n.zones,
             flowgates: n.flowgates,
         }
+    }
+
+    // Of the file, which is a known one.
+    #[tactic(auto, unfolding(market::specs::CaseFile::case_as))]
+    pub fn version(&self) -> Version
+        ensures { result ≡ (case_in self.now).version }
+    {
+        wire::version_at(self.bytes)
     }
 
     // ---- the head of a case, at places that no count moves: demand, reserve terms, demand curves
@@ -82,7 +91,7 @@ impl<'a> SizedCase<'a> {
     pub fn resource_bytes(&self, i: usize) -> ResourceBytes<'a>
         requires { i < self.now.resources }
         ensures bytes { result.bytes ≡ self.now.bytes }
-        ensures at { result.at ≡ resource_place self.now.zones i }
+        ensures at { result.at ≡ resource_place (version_in self.now.bytes.now) self.now.zones i }
     {
         case_records::resource_bytes(self.bytes, self.zones, i)
     }
@@ -110,7 +119,7 @@ impl<'a> SizedCase<'a> {
     pub fn flowgate_bytes(&self, f: usize) -> FlowgateBytes<'a>
         requires { f < self.now.flowgates }
         ensures bytes { result.bytes ≡ self.now.bytes }
-        ensures at { result.at ≡ flowgate_place self.now.resources self.now.zones f }
+        ensures at { result.at ≡ flowgate_place (version_in self.now.bytes.now) self.now.resources self.now.zones f }
         ensures resources { result.resources ≡ self.now.resources }
     {
         case_records::flowgate_bytes(self.bytes, self.resources, self.zones, f)

@@ -8,8 +8,8 @@ ghost use Rattle.market.specs.Records.{cents, millicents, amounts_of, limit_pric
 ghost use Rattle.certificate_records.specs.CertificateBytes.{CertificateBytes};
 
 use market::{
-    Amounts, CERTIFICATE_HEAD_SIZE, Cents, Counts, CurveAmounts, FLOWGATE_PRICE_SIZE, LimitPrices,
-    Millicents, ReservePrices, ZONE_PRICES_SIZE,
+    Amounts, Cents, Counts, CurveAmounts, FLOWGATE_PRICE_SIZE, LimitPrices, Millicents,
+    ReservePrices, Version, ZONE_PRICES_SIZE,
 };
 
 // The lent bytes of a certificate with its three counts, fields of their own as in `SizedCase`.
@@ -40,13 +40,21 @@ impl<'a> SizedCertificate<'a> {
         }
     }
 
+    // Of the file.
+    #[tactic(auto, unfolding(market::specs::Certificate::certificate_as))]
+    pub fn version(&self) -> Version
+        ensures { result ≡ (certificate_in self.now).version }
+    {
+        wire::version_at(self.bytes)
+    }
+
     // What resource i is given.
     #[tactic(auto, unfolding(market::specs::Records::amounts_of, market::specs::Certificate::certificate_as, market::specs::Certificate::amount_at))]
     pub fn amounts(&self, i: usize) -> Amounts
         requires { i < self.now.resources }
         ensures { result ≡ amounts_of (certificate_in self.now).amount i }
     {
-        let at = market::amounts_place(self.zones, self.flowgates, i);
+        let at = market::amounts_place(self.version(), self.zones, self.flowgates, i);
         Amounts {
             energy: wire::figure_at(self.bytes, at),
             regulation: wire::figure_at(self.bytes, at + 4),
@@ -62,13 +70,15 @@ impl<'a> SizedCertificate<'a> {
         requires { i < self.now.resources }
         ensures { result ≡ limit_prices_of (certificate_in self.now).price i }
     {
-        let at = market::amounts_place(self.zones, self.flowgates, i);
+        let version = self.version();
+        let place = market::amounts_place(version, self.zones, self.flowgates, i);
+        let at = place + 4 * version.services();
         LimitPrices {
-            max_with_reserve: wire::figure_at(self.bytes, at + 20),
-            max_with_short_term: wire::figure_at(self.bytes, at + 24),
-            minimum: wire::figure_at(self.bytes, at + 28),
-            high: wire::figure_at(self.bytes, at + 32),
-            low: wire::figure_at(self.bytes, at + 36),
+            max_with_reserve: wire::figure_at(self.bytes, at),
+            max_with_short_term: wire::figure_at(self.bytes, at + 4),
+            minimum: wire::figure_at(self.bytes, at + 8),
+            high: wire::figure_at(self.bytes, at + 12),
+            low: wire::figure_at(self.bytes, at + 16),
         }
     }
 
@@ -85,7 +95,7 @@ impl<'a> SizedCertificate<'a> {
     pub fn market_prices(&self) -> ReservePrices
         ensures { result ≡ reserve_prices_of (certificate_in self.now).price market_row }
     {
-        wire::per_curve_at(self.bytes, 28)
+        wire::per_curve_at(self.bytes, self.version().market_prices_place())
     }
 
     // The prices of a zone's reserve rows, zones counted from 0.
@@ -94,7 +104,8 @@ impl<'a> SizedCertificate<'a> {
         requires { zone < self.now.zones }
         ensures { result ≡ reserve_prices_of (certificate_in self.now).price (zone_row zone) }
     {
-        wire::per_curve_at(self.bytes, CERTIFICATE_HEAD_SIZE + zone * ZONE_PRICES_SIZE)
+        let first = self.version().certificate_head_size();
+        wire::per_curve_at(self.bytes, first + zone * ZONE_PRICES_SIZE)
     }
 
     // The price of row 1.
@@ -102,7 +113,7 @@ impl<'a> SizedCertificate<'a> {
     pub fn balance_price(&self) -> Millicents
         ensures { result ≡ millicents ((certificate_in self.now).price balance_row) }
     {
-        wire::signed_figure_at(self.bytes, 24)
+        wire::signed_figure_at(self.bytes, self.version().balance_price_place())
     }
 
     // The price of a flowgate's row, in cents, flowgates counted from 0.
@@ -111,9 +122,7 @@ impl<'a> SizedCertificate<'a> {
         requires { flowgate < self.now.flowgates }
         ensures { result ≡ cents ((certificate_in self.now).price (flowgate_row flowgate)) }
     {
-        wire::figure_at(
-            self.bytes,
-            CERTIFICATE_HEAD_SIZE + self.zones * ZONE_PRICES_SIZE + flowgate * FLOWGATE_PRICE_SIZE,
-        )
+        let first = self.version().certificate_head_size() + self.zones * ZONE_PRICES_SIZE;
+        wire::figure_at(self.bytes, first + flowgate * FLOWGATE_PRICE_SIZE)
     }
 }
