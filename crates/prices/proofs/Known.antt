@@ -12,7 +12,7 @@ use lib.Dec.{T}
 use Rattle.market.specs.Sizes.{most_provided}
 use Rattle.market.specs.CaseFile.{case_of}
 use Rattle.market.specs.declared.Curve.TheVariants.{Operating as operating, RegulatingPlusSpinning as regulating_plus_spinning, Regulating as regulating, ShortTerm as short_term}
-use Rattle.market.specs.UpperBounds.{Service, energy, regulation, contingency, on_line_short_term, off_line_short_term, provided_quantity}
+use Rattle.market.specs.UpperBounds.{Service, energy, regulation, contingency, on_line_short_term, off_line_short_term, provided_quantity, has_service}
 use Rattle.market.specs.Rows.{balance_row, market_row, zone_row, flowgate_row}
 use Rattle.market.specs.Certificate.{Prices, certificate_of}
 use Rattle.market.proofs.Ranges.{CaseRanges, PriceRanges, valid_ranges, price_ranges}
