@@ -7,6 +7,7 @@ use lib.IntN.{pos, nat_abs, ◌+ℤ◌, ◌-ℤ◌}
 use Rattle.arith.specs.Sums.{sum_of, total_of, upto}
 use Rattle.arith.proofs.Magnitudes.{abs-add, abs-sub}
 use Rattle.arith.proofs.NaturalSums.{upto-size, sum-size}
+use Rattle.market.proofs.Versions.{all_four_curves}
 use Rattle.market.specs.Case.{Case, curves}
 use Rattle.market.specs.declared.Curve.{Curve}
 use Rattle.market.specs.declared.Curve.TheVariants.{Operating as operating, RegulatingPlusSpinning as regulating_plus_spinning, Regulating as regulating, ShortTerm as short_term}
@@ -75,17 +76,17 @@ module _ {b q : List ℕ} {r z f : ℕ} (s : Standing b q r z f) where
 
   -- of two and of three
   pub two_curves_size : nat_abs (curve_value c x regulating +ℤ curve_value c x short_term) ≤ 25600000000000
-  two_curves_size = omega (arith, abs-add (curve_value c x regulating) (curve_value c x short_term), curve_size_lem regulating, curve_size_lem short_term)
+  two_curves_size = omega (arith, abs-add (curve_value c x regulating) (curve_value c x short_term), curve_size regulating, curve_size short_term)
 
   pub three_curves_size : nat_abs (curve_value c x regulating_plus_spinning +ℤ (curve_value c x regulating +ℤ curve_value c x short_term)) ≤ 38400000000000
-  three_curves_size = omega (arith, abs-add (curve_value c x regulating_plus_spinning) (curve_value c x regulating +ℤ curve_value c x short_term), curve_size_lem regulating_plus_spinning, two_curves_size)
+  three_curves_size = omega (arith, abs-add (curve_value c x regulating_plus_spinning) (curve_value c x regulating +ℤ curve_value c x short_term), curve_size regulating_plus_spinning, two_curves_size)
 
   curves_size : nat_abs (sum_of (curve_value c x) (curves c.version)) ≤ 51200000000000
   unfolding total_of
-  curves_size = omega (arith, sum-size (curve_value c x) (curves c.version), curve_size_lem operating, curve_size_lem regulating_plus_spinning, curve_size_lem regulating, curve_size_lem short_term)
+  curves_size = omega (arith, sum-size (curve_value c x) (curves c.version), curve_size operating, curve_size regulating_plus_spinning, curve_size regulating, curve_size short_term)
 
   -- ---- all
-  pub cost_room : SumRoom (sum_of (resource_worth c x) (upto r)) (sum_of (curve_value c x) curves)
+  pub cost_room : SumRoom (sum_of (resource_worth c x) (upto r)) (sum_of (curve_value c x) (curves c.version))
   cost_room = omega (arith, resources_size r (omega arith), curves_size, s.prices.case_bytes.counts.most_resources)
 
   pub grains_room : nat_abs (sum_of (resource_worth c x) (upto r) -ℤ sum_of (curve_value c x) (curves c.version)) ≤ 1000000000000000

@@ -11,6 +11,8 @@ use Rattle.arith.specs.Sums.{sum_of, upto, across}
 use Rattle.arith.proofs.Order.{neg-*ℤ}
 use Rattle.arith.proofs.Magnitudes.{abs-add, abs-mul}
 use Rattle.arith.proofs.Sums.{sum-ext, sum-neg, sum-map, sum-across, append_sums}
+use Rattle.market.specs.declared.version.Version.{Version}
+use Rattle.market.specs.declared.version.Version.TheVariants.{First as first}
 use Rattle.market.specs.Case.{Case, curves, energy_steps, curve_steps}
 use Rattle.market.specs.declared.Curve.{Curve}
 use Rattle.market.specs.declared.Curve.TheVariants.{Operating as operating, RegulatingPlusSpinning as regulating_plus_spinning, Regulating as regulating, ShortTerm as short_term}
@@ -51,9 +53,9 @@ module _ {p : ReserveOffers} {a : (PerService Kw)} (h : RangedOffers p) (k : Sma
       omega (arith, abs-add (p.regulating.0 *ℤ a.regulation.0) last, regulation_size, last_size)
 
 -- ---- over the curves, as they are added up
-pub four_curves_lem : (version : Version) (g : Curve → ℤ) → sum_of g (curves version) ≡ g operating +ℤ (g regulating_plus_spinning +ℤ (g regulating +ℤ g short_term))
+pub four_curves : (version : Version) (g : Curve → ℤ) → sum_of g (curves version) ≡ g operating +ℤ (g regulating_plus_spinning +ℤ (g regulating +ℤ g short_term))
 unfolding sum_of
-four_curves_lem version g = rw (+ℤ_idr (g short_term))
+four_curves version g = rw (+ℤ_idr (g short_term))
 
 -- ---- of a case and a schedule
 module _ (c : Case) (x : Schedule) where
