@@ -16,7 +16,7 @@ import tempfile
 from pathlib import Path
 
 # with the most lines that each may have
-PAGES = {"docs/READING.md": 180, "docs/CHANGING.md": 190, "docs/MODEL.md": 350, "docs/FORMAT.md": 320}
+PAGES = {"docs/READING.md": 180, "docs/CHANGING.md": 200, "docs/MODEL.md": 350, "docs/FORMAT.md": 320}
 FILES_ONLY = {"README.md": 190}  # pages for users, which need not name a definition
 UNQUOTED = {"```text", "```json", "```julia"}
 
