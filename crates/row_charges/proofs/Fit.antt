@@ -20,6 +20,7 @@ use Rattle.market.specs.Records.{amounts_of, limit_prices_of, cleared_of, curve_
 use Rattle.market.proofs.Families.{RowOf}
 use Rattle.market.proofs.Ranges.{CaseRanges, PriceRanges}
 use Rattle.market.proofs.RowSlacks.{rows_in_words}
+use Rattle.market.proofs.Versions.{all_four_curves, all_zoned}
 use Rattle.market.proofs.RowSizes.{right_size}
 use Rattle.market.proofs.LargestSums.{coefficient_figure}
 use Rattle.market.proofs.ScheduleSizes.{amount_of, slack_size}
@@ -106,25 +107,25 @@ module _ (c : Case) (x : Schedule) (y : Prices) (h : CaseRanges c) (p : PriceRan
   market_room n e =
       rw e
       (four_room market_row (λ k. sum_of (reserve_of c x k) (upto c.resources)) (λ k. pos (x (cleared_quantity k)))
-      (λ k. room_by_right (market_row k) tt _ _ (words.market k) (omega (arith, amount_of c h x b (cleared_quantity k) tt))))
+      (λ k. room_by_right (market_row k) (all_four_curves c.version k) _ _ (words.market k (all_four_curves c.version k)) (omega (arith, amount_of c h x b (cleared_quantity k) (all_four_curves c.version k)))))
 
   pub zone_room : (n z : ℕ) → n ≡ c.resources → z < c.zones →
       FourRoom (reserve_prices_of y (zone_row z)) (curve_amounts_of (λ k. sum_of (reserve_in_zone c x z k) (upto n))) (curve_amounts_of (λ k. pos (c.zone_requirement z k)))
   zone_room n z e m =
       rw e
       (four_room (zone_row z) (λ k. sum_of (reserve_in_zone c x z k) (upto c.resources)) (λ k. pos (c.zone_requirement z k))
-      (λ k. room_by_right (zone_row z k) m _ _ (words.zone z k) (omega (arith, h.zone_requirement z k m))))
+      (λ k. room_by_right (zone_row z k) (m, all_zoned k) _ _ (words.zone z k) (omega (arith, h.zone_requirement z k m (all_zoned k)))))
 
   -- MAX and HI stand on the left, MIN and LO on the right
   pub limit_room : (i : ℕ) → i < c.resources → FiveRoom (limit_prices_of y i) (amounts_of x i) (limits_of (c.resource i))
   unfolding limit_prices_of amounts_of limits_of right_side
   limit_room i n =
       let s = c.resource i in
-      let most : max_of s ≤ most_demand = omega (arith, (right_size c h (limit_row i max_with_reserve) n).le, abs_neg (pos (max_of s))) in
+      let most : max_of s ≤ most_demand = omega (arith, (right_size c h (limit_row i max_with_reserve) (n, tt)).le, abs_neg (pos (max_of s))) in
       record {
-        max_with_reserve = room_by_left (limit_row i max_with_reserve) n _ _ (words.below_max i n) most;
-        max_with_short_term = room_by_left (limit_row i max_with_short_term) n _ _ (words.below_max_short_term i n) most;
-        minimum = room_by_right (limit_row i minimum) n _ _ (words.above_min i n) (omega (arith, (right_size c h (limit_row i minimum) n).le));
-        high = room_by_left (limit_row i high) n _ _ (words.below_high i n) (omega (arith, (right_size c h (limit_row i high) n).le, abs_neg (pos (hi_of s))));
-        low = room_by_right (limit_row i low) n _ _ (words.above_low i n) (omega (arith, (right_size c h (limit_row i low) n).le));
+        max_with_reserve = room_by_left (limit_row i max_with_reserve) (n, tt) _ _ (words.below_max i n) most;
+        max_with_short_term = room_by_left (limit_row i max_with_short_term) (n, tt) _ _ (words.below_max_short_term i n) most;
+        minimum = room_by_right (limit_row i minimum) (n, tt) _ _ (words.above_min i n) (omega (arith, (right_size c h (limit_row i minimum) (n, tt)).le));
+        high = room_by_left (limit_row i high) (n, tt) _ _ (words.below_high i n) (omega (arith, (right_size c h (limit_row i high) (n, tt)).le, abs_neg (hi_of s)));
+        low = room_by_right (limit_row i low) (n, tt) _ _ (words.above_low i n) (omega (arith, (right_size c h (limit_row i low) (n, tt)).le));
       }

@@ -8,7 +8,7 @@ use lib.ListN.{length, take, drop, set, length-map, length-append}
 use borrow.Rule.Slice.PartMut.{put_mid}
 use Rattle.arith.specs.Sums.{upto, across}
 use Rattle.arith.proofs.Lists.{length-across, length-upto, across-upto, map-upto}
-use Rattle.market.specs.Case.{Case, curves}
+use Rattle.market.specs.Case.{Case, zoned_curves}
 use Rattle.market.specs.Rows.{Row, balance_row, zone_row, flowgate_row, market_rows, zone_rows, flowgate_rows, limit_rows, rows, system_row_count, zone_row_count, resource_row_count, row_count_of}
 use Rattle.arith.proofs.Buffers.{write_on, store_on}
 
@@ -40,27 +40,27 @@ module _ (h : Row → ℤ) where
 
   -- ---- families together
   module _ (c : Case) where
-    pub zone_count : {z : ℕ} → z ≡ c.zones → length (map h (balance_row ∷ market_rows) ++ map h (zone_rows c)) ≡ system_row_count + z * zone_row_count
+    pub zone_count : {z : ℕ} → z ≡ c.zones → length (map h (balance_row ∷ market_rows c) ++ map h (zone_rows c)) ≡ system_row_count c.version + z * zone_row_count
     zone_count e =
         omega (
           arith,
           e,
-          length-append (map h (balance_row ∷ market_rows)) (map h (zone_rows c)),
-          block_count (λ y. map (zone_row y) curves) zone_row_count (λ y. refl) c.zones,
+          length-append (map h (balance_row ∷ market_rows c)) (map h (zone_rows c)),
+          block_count (λ y. map (zone_row y) zoned_curves) zone_row_count (λ y. refl) c.zones,
         )
 
     pub flowgate_count : {f : ℕ} → f ≡ c.flowgates → length (map h (flowgate_rows c)) ≡ f
     flowgate_count e = row_count_lem flowgate_row c.flowgates ∙ sym e
 
-    all_rows : (map h (balance_row ∷ market_rows) ++ map h (zone_rows c)) ++ map h (flowgate_rows c ++ limit_rows c) ≡ map h (rows c)
+    all_rows : (map h (balance_row ∷ market_rows c) ++ map h (zone_rows c)) ++ map h (flowgate_rows c ++ limit_rows c) ≡ map h (rows c)
     unfolding rows
     all_rows =
-        ap (λ (l : List ℤ). l ++ map h (flowgate_rows c ++ limit_rows c)) (sym (map-append h (balance_row ∷ market_rows) (zone_rows c)))
-        ∙ sym (map-append h ((balance_row ∷ market_rows) ++ zone_rows c) (flowgate_rows c ++ limit_rows c))
-        ∙ ap (map h) (append_assoc (balance_row ∷ market_rows) (zone_rows c) (flowgate_rows c ++ limit_rows c))
+        ap (λ (l : List ℤ). l ++ map h (flowgate_rows c ++ limit_rows c)) (sym (map-append h (balance_row ∷ market_rows c) (zone_rows c)))
+        ∙ sym (map-append h ((balance_row ∷ market_rows c) ++ zone_rows c) (flowgate_rows c ++ limit_rows c))
+        ∙ ap (map h) (append_assoc (balance_row ∷ market_rows c) (zone_rows c) (flowgate_rows c ++ limit_rows c))
 
-    pub all_written : (z f r : ℕ) (o : List ℤ) → ((map h (balance_row ∷ market_rows) ++ map h (zone_rows c)) ++ map h (flowgate_rows c ++ limit_rows c)) ++ drop (system_row_count + z * zone_row_count + (f + r * resource_row_count)) o
-        ≡ map h (rows c) ++ drop (row_count_of r z f) o
+    pub all_written : (z f r : ℕ) (o : List ℤ) → ((map h (balance_row ∷ market_rows c) ++ map h (zone_rows c)) ++ map h (flowgate_rows c ++ limit_rows c)) ++ drop (system_row_count c.version + z * zone_row_count + (f + r * resource_row_count c.version)) o
+        ≡ map h (rows c) ++ drop (row_count_of c.version r z f) o
     all_written z f r o =
-        let e : system_row_count + z * zone_row_count + (f + r * resource_row_count) ≡ row_count_of r z f = omega arith in
-        ap (λ (l : List ℤ). l ++ drop (system_row_count + z * zone_row_count + (f + r * resource_row_count)) o) all_rows ∙ ap (λ (n : ℕ). map h (rows c) ++ drop n o) e
+        let e : system_row_count c.version + z * zone_row_count + (f + r * resource_row_count c.version) ≡ row_count_of c.version r z f = omega arith in
+        ap (λ (l : List ℤ). l ++ drop (system_row_count c.version + z * zone_row_count + (f + r * resource_row_count c.version)) o) all_rows ∙ ap (λ (n : ℕ). map h (rows c) ++ drop n o) e

@@ -4,8 +4,8 @@
 #![tactic(auto)]
 
 ghost use Rattle.std.specs.Prelude.{◌≡◌, [], ◌∷◌, map, ◌++◌, ◌+◌, ◌*◌, ◌<◌, ◌≤◌, ◌-ℤ◌, ◌*ℤ◌, length, drop};
-ghost use Rattle.market.specs.Case.{curves};
-ghost use Rattle.market.specs.Rows.{balance_row, zone_row, flowgate_row, limit_row, limits, market_rows, zone_rows, flowgate_rows, limit_rows, rows, system_row_count, zone_row_count, resource_row_count, row_count_of};
+ghost use Rattle.market.specs.Case.{zoned_curves};
+ghost use Rattle.market.specs.Rows.{balance_row, zone_row, flowgate_row, limit_row, all_limits, limits, market_rows, zone_rows, flowgate_rows, limit_rows, rows, system_row_count, zone_row_count, resource_row_count, row_count_of};
 ghost use Rattle.market.specs.Charges.{row_charge};
 ghost use Rattle.market.specs.Records.{grains};
 ghost use Rattle.row_charges.specs.Families.{RowChargeRoom, FourRoom, FiveRoom, row_charge_in, four_charges, five_charges};
@@ -15,8 +15,7 @@ use capabilities::KeptCase;
 use flows::Energies;
 use limits::ResourceLimits;
 use market::{
-    CurveAmounts, Grains, Kw, LimitPrices, MOST_RESOURCES, Millicents, RESOURCE_ROWS,
-    ReservePrices, SYSTEM_ROWS, ZONE_ROWS,
+    CurveAmounts, Grains, Kw, LimitPrices, MOST_RESOURCES, Millicents, ReservePrices, ZONE_ROWS,
 };
 use prices::{BoundedAmounts, BoundedCase};
 use reserves::ReserveTotals;
@@ -63,7 +62,7 @@ fn write_four(prices: ReservePrices, have: CurveAmounts, need: CurveAmounts, out
 // Against the cleared quantities.
 fn write_market(have: &ReserveTotals<'_>, out: &mut [i64])
     requires { zone_row_count ≤ length out.old }
-    ensures { out.new ≡ map (row_charge_in (case_bytes have.now.bounded.priced) (certificate_bytes have.now.bounded.priced)) market_rows ++ drop zone_row_count out.old }
+    ensures { out.new ≡ map (row_charge_in (case_bytes have.now.bounded.priced) (certificate_bytes have.now.bounded.priced)) (market_rows (the_case have.now.bounded.priced)) ++ drop zone_row_count out.old }
 {
     let prices = have.bounded.priced.certificate.market_prices();
     let need = have.bounded.priced.certificate.cleared();
@@ -72,8 +71,8 @@ fn write_market(have: &ReserveTotals<'_>, out: &mut [i64])
 
 // Rows 1 to 5.
 fn write_system(have: &ReserveTotals<'_>, out: &mut [i64])
-    requires { system_row_count ≤ length out.old }
-    ensures { out.new ≡ map (row_charge_in (case_bytes have.now.bounded.priced) (certificate_bytes have.now.bounded.priced)) (balance_row ∷ market_rows) ++ drop system_row_count out.old }
+    requires { system_row_count (the_case have.now.bounded.priced).version ≤ length out.old }
+    ensures { out.new ≡ map (row_charge_in (case_bytes have.now.bounded.priced) (certificate_bytes have.now.bounded.priced)) (balance_row ∷ market_rows (the_case have.now.bounded.priced)) ++ drop (system_row_count (the_case have.now.bounded.priced).version) out.old }
 {
     write_balance(&have.bounded, out);
     write_market(have, &mut out[1..]);
@@ -84,7 +83,7 @@ fn write_system(have: &ReserveTotals<'_>, out: &mut [i64])
 // Against what the zone needs.
 fn write_zone(have: &ReserveTotals<'_>, zone: usize, out: &mut [i64])
     requires { (zone < have.now.bounded.priced.case.zones) × (zone_row_count ≤ length out.old) }
-    ensures { out.new ≡ map (row_charge_in (case_bytes have.now.bounded.priced) (certificate_bytes have.now.bounded.priced)) (map (zone_row zone) curves) ++ drop zone_row_count out.old }
+    ensures { out.new ≡ map (row_charge_in (case_bytes have.now.bounded.priced) (certificate_bytes have.now.bounded.priced)) (map (zone_row zone) zoned_curves) ++ drop zone_row_count out.old }
 {
     let prices = have.bounded.priced.certificate.zone_prices(zone);
     let need = have.bounded.priced.case.zone(zone);
@@ -135,8 +134,8 @@ fn write_flowgates(bounded: &BoundedCase<'_>, out: &mut [i64])
 
 // MAX - (e+g+c), MAX - (e+s), e-g - MIN, HI - e, e - LO.
 fn write_five(prices: LimitPrices, own: BoundedAmounts, l: ResourceLimits, out: &mut [i64])
-    requires { FiveRoom prices own.amounts l × (resource_row_count ≤ length out.old) }
-    ensures { out.new ≡ five_charges prices own.amounts l ++ drop resource_row_count out.old }
+    requires { FiveRoom prices own.amounts l × (length all_limits ≤ length out.old) }
+    ensures { out.new ≡ five_charges prices own.amounts l ++ drop (length all_limits) out.old }
 {
     let a = own.amounts;
     let up = units::sum(a.energy, a.regulation);
@@ -148,12 +147,13 @@ fn write_five(prices: LimitPrices, own: BoundedAmounts, l: ResourceLimits, out: 
     let minimum = charge(prices.minimum, down, l.min);
     let high = charge(prices.high, l.high, a.energy);
     let low = charge(prices.low, a.energy, l.low);
-    out[..RESOURCE_ROWS].copy_from_slice(&[reserve.0, short_term.0, minimum.0, high.0, low.0]);
+    let charges = [reserve.0, short_term.0, minimum.0, high.0, low.0];
+    out[..charges.len()].copy_from_slice(&charges);
 }
 
 fn write_resource(kept: &KeptCase<'_>, i: usize, out: &mut [i64])
-    requires { (i < kept.now.bounded.priced.case.resources) × (resource_row_count ≤ length out.old) }
-    ensures { out.new ≡ map (row_charge_in (case_bytes kept.now.bounded.priced) (certificate_bytes kept.now.bounded.priced)) (map (limit_row i) limits) ++ drop resource_row_count out.old }
+    requires { (i < kept.now.bounded.priced.case.resources) × (resource_row_count (the_case kept.now.bounded.priced).version ≤ length out.old) }
+    ensures { out.new ≡ map (row_charge_in (case_bytes kept.now.bounded.priced) (certificate_bytes kept.now.bounded.priced)) (map (limit_row i) (limits (the_case kept.now.bounded.priced).version)) ++ drop (resource_row_count (the_case kept.now.bounded.priced).version) out.old }
 {
     let prices = kept.bounded.priced.certificate.limit_prices(i);
     let held = kept.limits(i);
@@ -164,11 +164,12 @@ fn write_resource(kept: &KeptCase<'_>, i: usize, out: &mut [i64])
 // Each resource's, from its own place on.
 #[tactic(auto, using(case_records::proofs::Places::resources_is), unfolding(arith::specs::Sums::upto, arith::specs::Sums::across))]
 fn write_resources(kept: &KeptCase<'_>, out: &mut [i64])
-    requires { kept.now.bounded.priced.case.resources * resource_row_count ≤ length out.old }
-    ensures { out.new ≡ map (row_charge_in (case_bytes kept.now.bounded.priced) (certificate_bytes kept.now.bounded.priced)) (limit_rows (the_case kept.now.bounded.priced)) ++ drop (kept.now.bounded.priced.case.resources * resource_row_count) out.old }
+    requires { kept.now.bounded.priced.case.resources * resource_row_count (the_case kept.now.bounded.priced).version ≤ length out.old }
+    ensures { out.new ≡ map (row_charge_in (case_bytes kept.now.bounded.priced) (certificate_bytes kept.now.bounded.priced)) (limit_rows (the_case kept.now.bounded.priced)) ++ drop (kept.now.bounded.priced.case.resources * resource_row_count (the_case kept.now.bounded.priced).version) out.old }
 {
+    let numbers = kept.bounded.priced.case.version().resource_rows();
     for i in 0..kept.bounded.priced.case.resources {
-        write_resource(kept, i, &mut out[i * RESOURCE_ROWS..]);
+        write_resource(kept, i, &mut out[i * numbers..]);
     }
 }
 
@@ -176,20 +177,21 @@ fn write_resources(kept: &KeptCase<'_>, out: &mut [i64])
 
 // Flowgates' and resources'.
 fn write_network(kept: &KeptCase<'_>, out: &mut [i64])
-    requires { kept.now.bounded.priced.case.flowgates + kept.now.bounded.priced.case.resources * resource_row_count ≤ length out.old }
-    ensures { out.new ≡ map (row_charge_in (case_bytes kept.now.bounded.priced) (certificate_bytes kept.now.bounded.priced)) (flowgate_rows (the_case kept.now.bounded.priced) ++ limit_rows (the_case kept.now.bounded.priced)) ++ drop (kept.now.bounded.priced.case.flowgates + kept.now.bounded.priced.case.resources * resource_row_count) out.old }
+    requires { kept.now.bounded.priced.case.flowgates + kept.now.bounded.priced.case.resources * resource_row_count (the_case kept.now.bounded.priced).version ≤ length out.old }
+    ensures { out.new ≡ map (row_charge_in (case_bytes kept.now.bounded.priced) (certificate_bytes kept.now.bounded.priced)) (flowgate_rows (the_case kept.now.bounded.priced) ++ limit_rows (the_case kept.now.bounded.priced)) ++ drop (kept.now.bounded.priced.case.flowgates + kept.now.bounded.priced.case.resources * resource_row_count (the_case kept.now.bounded.priced).version) out.old }
 {
     write_flowgates(&kept.bounded, out);
     write_resources(kept, &mut out[kept.bounded.priced.case.flowgates..]);
 }
 
 pub fn write_row_charges(kept: &KeptCase<'_>, out: &mut [i64])
-    requires { row_count_of kept.now.bounded.priced.case.resources kept.now.bounded.priced.case.zones kept.now.bounded.priced.case.flowgates ≤ length out.old }
-    ensures { out.new ≡ map (row_charge (the_case kept.now.bounded.priced) (the_amounts kept.now.bounded.priced) (the_prices kept.now.bounded.priced)) (rows (the_case kept.now.bounded.priced)) ++ drop (row_count_of kept.now.bounded.priced.case.resources kept.now.bounded.priced.case.zones kept.now.bounded.priced.case.flowgates) out.old }
+    requires { row_count_of (the_case kept.now.bounded.priced).version kept.now.bounded.priced.case.resources kept.now.bounded.priced.case.zones kept.now.bounded.priced.case.flowgates ≤ length out.old }
+    ensures { out.new ≡ map (row_charge (the_case kept.now.bounded.priced) (the_amounts kept.now.bounded.priced) (the_prices kept.now.bounded.priced)) (rows (the_case kept.now.bounded.priced)) ++ drop (row_count_of (the_case kept.now.bounded.priced).version kept.now.bounded.priced.case.resources kept.now.bounded.priced.case.zones kept.now.bounded.priced.case.flowgates) out.old }
 {
-    let at = SYSTEM_ROWS + kept.bounded.priced.case.zones * ZONE_ROWS;
+    let first = kept.bounded.priced.case.version().system_rows();
+    let at = first + kept.bounded.priced.case.zones * ZONE_ROWS;
     let have = reserves::totals(kept);
     write_system(&have, out);
-    write_zones(&have, &mut out[SYSTEM_ROWS..]);
+    write_zones(&have, &mut out[first..]);
     write_network(kept, &mut out[at..]);
 }

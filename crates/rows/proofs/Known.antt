@@ -10,7 +10,7 @@ use Rattle.arith.specs.Sums.{sum_of, upto, across}
 use Rattle.arith.proofs.Lists.{length-across, length-upto, across-one}
 use Rattle.arith.proofs.NaturalSums.{upto-size}
 use Rattle.market.specs.declared.Refusal.{Refusal}
-use Rattle.market.specs.Case.{Case, curves}
+use Rattle.market.specs.Case.{Case, zoned_curves}
 use Rattle.market.specs.CaseCheck.{most_resources}
 use Rattle.market.specs.UpperBounds.{energy}
 use Rattle.market.specs.Rows.{Row, balance_row, zone_row, flowgate_row, market_rows, zone_rows, flowgate_rows, limit_rows, rows, zone_row_count}
@@ -30,7 +30,7 @@ energy_room q r e few i h = omega (arith, e.most i h, upto-size (λ j. kw_of (ce
 -- ---- the rows family by family
 module _ (c : Case) where
   zone_rows_long : length (zone_rows c) ≡ c.zones * zone_row_count
-  zone_rows_long = length-across (λ y. map (zone_row y) curves) zone_row_count (λ y. refl) (upto c.zones) ∙ ap (λ (m : ℕ). m * zone_row_count) (length-upto c.zones)
+  zone_rows_long = length-across (λ y. map (zone_row y) zoned_curves) zone_row_count (λ y. refl) (upto c.zones) ∙ ap (λ (m : ℕ). m * zone_row_count) (length-upto c.zones)
 
   -- a flowgate's row as a block of one
   pub flowgate_blocks : across (λ g. flowgate_row g ∷ []) (upto c.flowgates) ≡ flowgate_rows c
@@ -49,23 +49,23 @@ module _ (t : Row → Bool) (r : ℕ → Refusal) (c : Case) where
   balance_found = first_failing t r 1 (balance_row ∷ [])
 
   abbrev market_found : Finding
-  market_found = first_failing t r 2 market_rows
+  market_found = first_failing t r 2 (market_rows c)
 
   abbrev zones_found : Finding
-  zones_found = first_failing t r first_zone_row (zone_rows c)
+  zones_found = first_failing t r (first_zone_row c.version) (zone_rows c)
 
   abbrev network_found : Finding
-  network_found = first_failing t r (first_zone_row + c.zones * zone_row_count) (flowgate_rows c ++ limit_rows c)
+  network_found = first_failing t r (first_zone_row c.version + c.zones * zone_row_count) (flowgate_rows c ++ limit_rows c)
 
   rows_first : or_else balance_found (or_else market_found (or_else zones_found network_found)) ≡ first_failing t r 1 (rows c)
   unfolding rows
   rows_first =
       sym
-      (first_append t r 1 (balance_row ∷ []) (market_rows ++ (zone_rows c ++ (flowgate_rows c ++ limit_rows c)))
+      (first_append t r 1 (balance_row ∷ []) (market_rows c ++ (zone_rows c ++ (flowgate_rows c ++ limit_rows c)))
       ∙ ap (or_else balance_found)
-      (first_append t r 2 market_rows (zone_rows c ++ (flowgate_rows c ++ limit_rows c))
+      (first_append t r 2 (market_rows c) (zone_rows c ++ (flowgate_rows c ++ limit_rows c))
       ∙ ap (or_else market_found)
-      (first_append t r first_zone_row (zone_rows c) (flowgate_rows c ++ limit_rows c) ∙ rw (zone_rows_long c))))
+      (first_append t r (first_zone_row c.version) (zone_rows c) (flowgate_rows c ++ limit_rows c) ∙ rw (zone_rows_long c))))
 
   -- row 1 is broken
   pub balance_broken : t balance_row ≡ false → found_at r (Some 1) ≡ first_failing t r 1 (rows c)

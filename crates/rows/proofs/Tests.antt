@@ -7,7 +7,7 @@ use lib.IntN.{ℤ, pos, ◌+ℤ◌, ◌-ℤ◌, ◌*ℤ◌}
 use lib.Signed.{le_z}
 use Rattle.arith.specs.Sums.{sum_of, upto}
 use Rattle.arith.proofs.Order.{le_z_sub, sub_le_z}
-use Rattle.market.specs.Case.{Case, curves}
+use Rattle.market.specs.Case.{Case, zoned_curves}
 use Rattle.market.specs.declared.Curve.{Curve}
 use Rattle.market.specs.declared.Curve.TheVariants.{Operating as operating, RegulatingPlusSpinning as regulating_plus_spinning, Regulating as regulating, ShortTerm as short_term}
 use Rattle.market.specs.Limits.{max_of, min_of, hi_of, lo_of}
@@ -18,6 +18,7 @@ use Rattle.market.specs.InWords.{RowsInWords, kw_of, reserve_of, reserve_in_zone
 use Rattle.market.specs.Outcome.{row_met}
 use Rattle.market.specs.Records.{amounts_of, cleared_of, curve_amounts_of}
 use Rattle.market.proofs.RowSlacks.{rows_in_words}
+use Rattle.market.proofs.Versions.{all_four_curves}
 use Rattle.limits.specs.Together.{limits_of}
 use Rattle.units.specs.Search.{short_tests}
 use Rattle.rows.specs.Tests.{limit_tests}
@@ -45,16 +46,16 @@ module _ (c : Case) (k : Certificate) where
 
   -- ---- reserve rows
   market_met : (l : Curve) → le_z (pos (x (cleared_quantity l))) (sum_of (reserve_of c x l) (upto c.resources)) ≡ row_met c k (market_row l)
-  market_met l = met (pos (x (cleared_quantity l))) (sum_of (reserve_of c x l) (upto c.resources)) (words.market l)
+  market_met l = met (pos (x (cleared_quantity l))) (sum_of (reserve_of c x l) (upto c.resources)) (words.market l (all_four_curves c.version l))
 
-  pub market_tests : (n : ℕ) → n ≡ c.resources → short_tests (curve_amounts_of (λ l. sum_of (reserve_of c x l) (upto n))) (cleared_of x) ≡ map (row_met c k) market_rows
+  pub market_tests : (n : ℕ) → n ≡ c.resources → short_tests (curve_amounts_of (λ l. sum_of (reserve_of c x l) (upto n))) (cleared_of x) ≡ map (row_met c k) (market_rows c)
   unfolding cleared_of
   market_tests n e = rw e (λ j. market_met operating j ∷ market_met regulating_plus_spinning j ∷ market_met regulating j ∷ market_met short_term j ∷ [])
 
   zone_met : (y : ℕ) (l : Curve) → le_z (pos (c.zone_requirement y l)) (sum_of (reserve_in_zone c x y l) (upto c.resources)) ≡ row_met c k (zone_row y l)
   zone_met y l = met (pos (c.zone_requirement y l)) (sum_of (reserve_in_zone c x y l) (upto c.resources)) (words.zone y l)
 
-  pub zone_tests : (n y : ℕ) → n ≡ c.resources → short_tests (curve_amounts_of (λ l. sum_of (reserve_in_zone c x y l) (upto n))) (curve_amounts_of (λ l. pos (c.zone_requirement y l))) ≡ map (row_met c k) (map (zone_row y) curves)
+  pub zone_tests : (n y : ℕ) → n ≡ c.resources → short_tests (curve_amounts_of (λ l. sum_of (reserve_in_zone c x y l) (upto n))) (curve_amounts_of (λ l. pos (c.zone_requirement y l))) ≡ map (row_met c k) (map (zone_row y) zoned_curves)
   zone_tests n y e = rw e (λ j. zone_met y operating j ∷ zone_met y regulating_plus_spinning j ∷ zone_met y regulating j ∷ zone_met y short_term j ∷ [])
 
   -- ---- flowgates
@@ -62,7 +63,7 @@ module _ (c : Case) (k : Certificate) where
   flowgate_met n g e = rw e (met (sum_of (λ i. c.shift_factor g i *ℤ kw_of x i energy) (upto c.resources)) (pos 1000 *ℤ c.flowgate_limit g) (words.flowgate g))
 
   -- ---- a resource's own
-  pub limit_tests_lem : (i : ℕ) → i < c.resources → limit_tests (amounts_of x i) (limits_of (c.resource i)) ≡ map (row_met c k) (map (limit_row i) limits)
+  pub limit_tests_lem : (i : ℕ) → i < c.resources → limit_tests (amounts_of x i) (limits_of (c.resource i)) ≡ map (row_met c k) (map (limit_row i) (limits c.version))
   unfolding amounts_of limits_of
   limit_tests_lem i h =
       let e = kw_of x i energy in
@@ -70,7 +71,7 @@ module _ (c : Case) (k : Certificate) where
       let most = pos (max_of (c.resource i)) in
       let reserve = met (e +ℤ g +ℤ kw_of x i contingency) most (words.below_max i h) in
       let short_term = met (e +ℤ kw_of x i on_line_short_term) most (words.below_max_short_term i h) in
-      let least = met (pos (min_of (c.resource i))) (e -ℤ g) (words.above_min i h) in
-      let high = met e (pos (hi_of (c.resource i))) (words.below_high i h) in
-      let low = met (pos (lo_of (c.resource i))) e (words.above_low i h) in
+      let least = met (min_of (c.resource i)) (e -ℤ g) (words.above_min i h) in
+      let high = met e (hi_of (c.resource i)) (words.below_high i h) in
+      let low = met (lo_of (c.resource i)) e (words.above_low i h) in
       λ j. reserve j ∷ short_term j ∷ least j ∷ high j ∷ low j ∷ []

@@ -5,7 +5,7 @@
 ghost use Rattle.std.specs.Prelude.{◌≡◌, [], ◌∷◌, ◌++◌, map, ◌+◌, ◌*◌, ◌<◌, ◌≤◌};
 ghost use Rattle.arith.specs.Sums.{sum_of, upto};
 ghost use Rattle.market.specs.declared.Refusal.TheVariants.{RowBroken};
-ghost use Rattle.market.specs.Case.{curves};
+ghost use Rattle.market.specs.Case.{zoned_curves};
 ghost use Rattle.market.specs.UpperBounds.{energy};
 ghost use Rattle.market.specs.Rows.{balance_row, zone_row, flowgate_row, limit_row, limits, market_rows, zone_rows, flowgate_rows, limit_rows, rows, zone_row_count, resource_row_count};
 ghost use Rattle.market.specs.InWords.{kw_of};
@@ -16,6 +16,7 @@ ghost use Rattle.flows.specs.Parts.{EnergyBounded};
 ghost use Rattle.units.specs.Search.{first_false};
 ghost use Rattle.rows.specs.Tests.{limit_tests, broken_from, first_zone_row, first_flowgate_row, first_limit_row, most_row};
 ghost use Rattle.prices.specs.PricedCase.{the_case, case_bytes, certificate_bytes};
+ghost use Rattle.case_reader.specs.Reader.{case_in};
 ghost use Rattle.certificate_records.specs.Reader.{certificate_in};
 
 use capabilities::KeptCase;
@@ -23,28 +24,31 @@ use case_reader::SizedCase;
 use certificate_records::SizedCertificate;
 use flows::Energies;
 use limits::ResourceLimits;
-use market::{Kw, MOST_RESOURCES, RESOURCE_ROWS, SYSTEM_ROWS, ZONE_ROWS};
+use market::{Kw, MOST_RESOURCES, ZONE_ROWS};
 use prices::{BoundedAmounts, BoundedCase};
 use reserves::ReserveTotals;
 
 // ---- where each family's numbers begin
 
-// Row numbers have 32 bits. Those of the zones begin behind row 1 and the market's.
-const FIRST_ZONE_ROW: u32 = SYSTEM_ROWS as u32 + 1;
-
+// Row numbers have 32 bits.
 const NUMBERS_A_ZONE: u32 = ZONE_ROWS as u32;
 
-const NUMBERS_A_RESOURCE: u32 = RESOURCE_ROWS as u32;
+// Behind row 1 and the market's.
+fn first_zone_row(case: &SizedCase<'_>) -> u32
+    ensures { result ≡ first_zone_row (case_in case.now).version }
+{
+    case.version().system_rows() as u32 + 1
+}
 
 fn first_flowgate_row(case: &SizedCase<'_>) -> u32
-    ensures { result ≡ first_flowgate_row case.now.zones }
+    ensures { result ≡ first_flowgate_row (case_in case.now).version case.now.zones }
 {
-    FIRST_ZONE_ROW + case.zones as u32 * NUMBERS_A_ZONE
+    first_zone_row(case) + case.zones as u32 * NUMBERS_A_ZONE
 }
 
 // The first of the resources' own.
 fn first_limit_row(case: &SizedCase<'_>) -> u32
-    ensures { result ≡ first_limit_row case.now.zones case.now.flowgates }
+    ensures { result ≡ first_limit_row (case_in case.now).version case.now.zones case.now.flowgates }
 {
     first_flowgate_row(case) + case.flowgates as u32
 }
@@ -77,7 +81,7 @@ fn balanced(bounded: &BoundedCase<'_>) -> bool
 
 // Market-wide against the cleared quantities: rows 2 to 5.
 fn market_short(have: &ReserveTotals<'_>) -> Option<u32>
-    ensures { found_at RowBroken result ≡ broken_from (case_bytes have.now.bounded.priced) (certificate_bytes have.now.bounded.priced) 2 market_rows }
+    ensures { found_at RowBroken result ≡ broken_from (case_bytes have.now.bounded.priced) (certificate_bytes have.now.bounded.priced) 2 (market_rows (the_case have.now.bounded.priced)) }
 {
     let need = have.bounded.priced.certificate.cleared();
     units::first_short(have.market, need, 2)
@@ -86,17 +90,17 @@ fn market_short(have: &ReserveTotals<'_>) -> Option<u32>
 // A zone's four rows.
 fn zone_short(have: &ReserveTotals<'_>, zone: usize) -> Option<u32>
     requires { zone < have.now.bounded.priced.case.zones }
-    ensures { found_at RowBroken result ≡ broken_from (case_bytes have.now.bounded.priced) (certificate_bytes have.now.bounded.priced) (first_zone_row + zone * zone_row_count) (map (zone_row zone) curves) }
+    ensures { found_at RowBroken result ≡ broken_from (case_bytes have.now.bounded.priced) (certificate_bytes have.now.bounded.priced) (first_zone_row (the_case have.now.bounded.priced).version + zone * zone_row_count) (map (zone_row zone) zoned_curves) }
 {
     let need = have.bounded.priced.case.zone(zone);
-    let first = FIRST_ZONE_ROW + zone as u32 * NUMBERS_A_ZONE;
+    let first = first_zone_row(&have.bounded.priced.case) + zone as u32 * NUMBERS_A_ZONE;
     units::first_short(have.zones[zone], need, first)
 }
 
 // This loop and those over flowgates and resources are `for`, and no `find_map`: what a search has found so far is one law
 // (units, proofs/Search) for the three and for 13's, and `find_map` would need another of what its closure answers.
 fn zones_short(have: &ReserveTotals<'_>) -> Option<u32>
-    ensures { found_at RowBroken result ≡ broken_from (case_bytes have.now.bounded.priced) (certificate_bytes have.now.bounded.priced) first_zone_row (zone_rows (the_case have.now.bounded.priced)) }
+    ensures { found_at RowBroken result ≡ broken_from (case_bytes have.now.bounded.priced) (certificate_bytes have.now.bounded.priced) (first_zone_row (the_case have.now.bounded.priced).version) (zone_rows (the_case have.now.bounded.priced)) }
 {
     for zone in 0..have.bounded.priced.case.zones {
         if let Some(row) = zone_short(have, zone) {
@@ -111,7 +115,7 @@ fn zones_short(have: &ReserveTotals<'_>) -> Option<u32>
 // A flowgate's row: at most the limit flows.
 fn flowgate_over(energies: &Energies<'_>, g: usize) -> Option<u32>
     requires { g < energies.now.bounded.priced.case.flowgates }
-    ensures { found_at RowBroken result ≡ broken_from (case_bytes energies.now.bounded.priced) (certificate_bytes energies.now.bounded.priced) (first_flowgate_row energies.now.bounded.priced.case.zones + g) (flowgate_row g ∷ []) }
+    ensures { found_at RowBroken result ≡ broken_from (case_bytes energies.now.bounded.priced) (certificate_bytes energies.now.bounded.priced) (first_flowgate_row (the_case energies.now.bounded.priced).version energies.now.bounded.priced.case.zones + g) (flowgate_row g ∷ []) }
 {
     let flows = flows::flow(energies, g);
     let limit = energies.bounded.priced.case.flowgate_limit(g);
@@ -123,7 +127,7 @@ fn flowgate_over(energies: &Energies<'_>, g: usize) -> Option<u32>
 }
 
 fn flowgates_over(bounded: &BoundedCase<'_>) -> Option<u32>
-    ensures { found_at RowBroken result ≡ broken_from (case_bytes bounded.now.priced) (certificate_bytes bounded.now.priced) (first_flowgate_row bounded.now.priced.case.zones) (flowgate_rows (the_case bounded.now.priced)) }
+    ensures { found_at RowBroken result ≡ broken_from (case_bytes bounded.now.priced) (certificate_bytes bounded.now.priced) (first_flowgate_row (the_case bounded.now.priced).version bounded.now.priced.case.zones) (flowgate_rows (the_case bounded.now.priced)) }
 {
     let mut parts = [flows::NO_ENERGY; MOST_RESOURCES];
     flows::write_energies(&bounded.priced.certificate, &mut parts);
@@ -163,16 +167,17 @@ fn first_outside(own: BoundedAmounts, l: ResourceLimits, first: u32) -> Option<u
 // The five rows of resource i.
 fn resource_outside(kept: &KeptCase<'_>, i: usize) -> Option<u32>
     requires { i < kept.now.bounded.priced.case.resources }
-    ensures { found_at RowBroken result ≡ broken_from (case_bytes kept.now.bounded.priced) (certificate_bytes kept.now.bounded.priced) (first_limit_row kept.now.bounded.priced.case.zones kept.now.bounded.priced.case.flowgates + i * resource_row_count) (map (limit_row i) limits) }
+    ensures { found_at RowBroken result ≡ broken_from (case_bytes kept.now.bounded.priced) (certificate_bytes kept.now.bounded.priced) (first_limit_row (the_case kept.now.bounded.priced).version kept.now.bounded.priced.case.zones kept.now.bounded.priced.case.flowgates + i * resource_row_count (the_case kept.now.bounded.priced).version) (map (limit_row i) (limits (the_case kept.now.bounded.priced).version)) }
 {
     let held = kept.limits(i);
     let own = kept.bounded.amounts(i);
-    let first = first_limit_row(&kept.bounded.priced.case) + i as u32 * NUMBERS_A_RESOURCE;
+    let numbers = kept.bounded.priced.case.version().resource_rows() as u32;
+    let first = first_limit_row(&kept.bounded.priced.case) + i as u32 * numbers;
     first_outside(own, held, first)
 }
 
 fn resources_outside(kept: &KeptCase<'_>) -> Option<u32>
-    ensures { found_at RowBroken result ≡ broken_from (case_bytes kept.now.bounded.priced) (certificate_bytes kept.now.bounded.priced) (first_limit_row kept.now.bounded.priced.case.zones kept.now.bounded.priced.case.flowgates) (limit_rows (the_case kept.now.bounded.priced)) }
+    ensures { found_at RowBroken result ≡ broken_from (case_bytes kept.now.bounded.priced) (certificate_bytes kept.now.bounded.priced) (first_limit_row (the_case kept.now.bounded.priced).version kept.now.bounded.priced.case.zones kept.now.bounded.priced.case.flowgates) (limit_rows (the_case kept.now.bounded.priced)) }
 {
     for i in 0..kept.bounded.priced.case.resources {
         if let Some(row) = resource_outside(kept, i) {
@@ -188,7 +193,7 @@ fn resources_outside(kept: &KeptCase<'_>) -> Option<u32>
 // of a closure with no clause that is nothing, so that this one would have to say again what `resources_outside` says. So it is in
 // `first_broken` and in `quantities::first_above`.
 fn network_broken(kept: &KeptCase<'_>) -> Option<u32>
-    ensures { found_at RowBroken result ≡ broken_from (case_bytes kept.now.bounded.priced) (certificate_bytes kept.now.bounded.priced) (first_flowgate_row kept.now.bounded.priced.case.zones) (flowgate_rows (the_case kept.now.bounded.priced) ++ limit_rows (the_case kept.now.bounded.priced)) }
+    ensures { found_at RowBroken result ≡ broken_from (case_bytes kept.now.bounded.priced) (certificate_bytes kept.now.bounded.priced) (first_flowgate_row (the_case kept.now.bounded.priced).version kept.now.bounded.priced.case.zones) (flowgate_rows (the_case kept.now.bounded.priced) ++ limit_rows (the_case kept.now.bounded.priced)) }
 {
     if let Some(row) = flowgates_over(&kept.bounded) {
         return Some(row);

@@ -27,4 +27,4 @@ pub returns : goal.returns
 returns c =
     c.write_five.ensures
     ∙ rw (c.limit_prices-prices.ensures, held_is (goal.at.returns c).After-limits-held, c.amounts-own.ensures)
-    (ap (λ (l : List ℤ). l ++ drop resource_row_count c.args.out.now) (limit_charges (the_case c.args.kept.now.bounded.priced) (the_amounts c.args.kept.now.bounded.priced) (the_prices c.args.kept.now.bounded.priced) c.args.i (resource_below c.args.kept.now.bounded.standing.prices c.requires.0)))
+    (ap (λ (l : List ℤ). l ++ drop (resource_row_count (the_case c.args.kept.now.bounded.priced).version) c.args.out.now) (limit_charges (the_case c.args.kept.now.bounded.priced) (the_amounts c.args.kept.now.bounded.priced) (the_prices c.args.kept.now.bounded.priced) c.args.i (resource_below c.args.kept.now.bounded.standing.prices c.requires.0)))

@@ -14,22 +14,25 @@ use Rattle.row_charges.proofs.write_row_charges.Goals.{After-out-2-1}
 use Rattle.prices.specs.PricedCase.{the_case, case_bytes, certificate_bytes}
 
 zones-written : (c : After-out-2-1) →
+    let cs = the_case c.args.kept.now.bounded.priced in
     let h = row_charge_in (case_bytes c.args.kept.now.bounded.priced) (certificate_bytes c.args.kept.now.bounded.priced) in
     let first = c.write_system.new.out in
-    put_mid system_row_count (length first - system_row_count) first c.write_zones.new.out
-    ≡ (map h (balance_row ∷ market_rows) ++ map h (zone_rows (the_case c.args.kept.now.bounded.priced))) ++ drop (system_row_count + c.args.kept.now.bounded.priced.case.zones * zone_row_count) c.args.out.now
+    put_mid (system_row_count cs.version) (length first - system_row_count cs.version) first c.write_zones.new.out
+    ≡ (map h (balance_row ∷ market_rows cs) ++ map h (zone_rows cs)) ++ drop (system_row_count cs.version + c.args.kept.now.bounded.priced.case.zones * zone_row_count) c.args.out.now
 zones-written c =
+    let cs = the_case c.args.kept.now.bounded.priced in
     let h = row_charge_in (case_bytes c.args.kept.now.bounded.priced) (certificate_bytes c.args.kept.now.bounded.priced) in
-    write_on (map h (balance_row ∷ market_rows)) (map h (zone_rows (the_case c.args.kept.now.bounded.priced))) c.args.out.now c.write_system.new.out c.write_zones.new.out
-    system_row_count (c.args.kept.now.bounded.priced.case.zones * zone_row_count) system_row_count refl refl (omega arith) (rw c.totals-have.ensures at c.write_system.ensures) (rw c.totals-have.ensures at c.write_zones.ensures)
+    write_on (map h (balance_row ∷ market_rows cs)) (map h (zone_rows cs)) c.args.out.now c.write_system.new.out c.write_zones.new.out
+    (system_row_count cs.version) (c.args.kept.now.bounded.priced.case.zones * zone_row_count) (system_row_count cs.version) refl refl (omega arith) (rw c.totals-have.ensures at c.write_system.ensures) (rw (c.totals-have.ensures, c.system_rows-first.ensures) at c.write_zones.ensures)
 
 pub returns : goal.returns
 returns c =
     let cs = the_case c.args.kept.now.bounded.priced in
     let h = row_charge_in (case_bytes c.args.kept.now.bounded.priced) (certificate_bytes c.args.kept.now.bounded.priced) in
     let first = c.write_system.new.out in
-    let out = put_mid system_row_count (length first - system_row_count) first c.write_zones.new.out in
-    write_on (map h (balance_row ∷ market_rows) ++ map h (zone_rows cs)) (map h (flowgate_rows cs ++ limit_rows cs)) c.args.out.now out c.write_network.new.out
-    (system_row_count + c.args.kept.now.bounded.priced.case.zones * zone_row_count) (c.args.kept.now.bounded.priced.case.flowgates + c.args.kept.now.bounded.priced.case.resources * resource_row_count) (system_row_count + c.args.kept.now.bounded.priced.case.zones * zone_row_count)
-    (zone_count h cs (zones_is c.args.kept.now.bounded.standing.prices.case_bytes)) refl (omega arith) (zones-written (goal.at.returns c).After-out-2-1) c.write_network.ensures
-    ∙ all_written h cs c.args.kept.now.bounded.priced.case.zones c.args.kept.now.bounded.priced.case.flowgates c.args.kept.now.bounded.priced.case.resources c.args.out.now
+    let out = put_mid (system_row_count cs.version) (length first - system_row_count cs.version) first c.write_zones.new.out in
+    rw c.system_rows-first.ensures
+    (write_on (map h (balance_row ∷ market_rows cs) ++ map h (zone_rows cs)) (map h (flowgate_rows cs ++ limit_rows cs)) c.args.out.now out c.write_network.new.out
+    (system_row_count cs.version + c.args.kept.now.bounded.priced.case.zones * zone_row_count) (c.args.kept.now.bounded.priced.case.flowgates + c.args.kept.now.bounded.priced.case.resources * resource_row_count cs.version) (system_row_count cs.version + c.args.kept.now.bounded.priced.case.zones * zone_row_count)
+    (zone_count h cs (zones_is c.args.kept.now.bounded.standing.prices.case_bytes)) refl (omega arith) (zones-written (goal.at.returns c).After-out-2-1) (rw c.system_rows-first.ensures at c.write_network.ensures)
+    ∙ all_written h cs c.args.kept.now.bounded.priced.case.zones c.args.kept.now.bounded.priced.case.flowgates c.args.kept.now.bounded.priced.case.resources c.args.out.now)

@@ -23,8 +23,8 @@ told c =
 
 pub returns-then-at_least : goal.returns-then-at_least
 returns-then-at_least c =
-    sym (passes (row_met (the_case c.args.energies.now.bounded.priced) (certificate_in c.args.energies.now.bounded.priced.certificate)) RowBroken (first_flowgate_row c.args.energies.now.bounded.priced.case.zones + c.args.g) (flowgate_row c.args.g) [] (sym (told (goal.at.returns-then-at_least c).After-at_least) ∙ c.if-at_least.true) ∙ first_none (row_met (the_case c.args.energies.now.bounded.priced) (certificate_in c.args.energies.now.bounded.priced.certificate)) RowBroken _)
+    sym (passes (row_met (the_case c.args.energies.now.bounded.priced) (certificate_in c.args.energies.now.bounded.priced.certificate)) RowBroken (first_flowgate_row (the_case c.args.energies.now.bounded.priced).version c.args.energies.now.bounded.priced.case.zones + c.args.g) (flowgate_row c.args.g) [] (sym (told (goal.at.returns-then-at_least c).After-at_least) ∙ c.if-at_least.true) ∙ first_none (row_met (the_case c.args.energies.now.bounded.priced) (certificate_in c.args.energies.now.bounded.priced.certificate)) RowBroken _)
 
 pub returns : goal.returns
 returns c =
-    rw c.first_flowgate_row.ensures (sym (fails (row_met (the_case c.args.energies.now.bounded.priced) (certificate_in c.args.energies.now.bounded.priced.certificate)) RowBroken (first_flowgate_row c.args.energies.now.bounded.priced.case.zones + c.args.g) (flowgate_row c.args.g) [] (sym (told (goal.at.returns c).After-at_least) ∙ c.if-at_least.false)))
+    rw c.first_flowgate_row.ensures (sym (fails (row_met (the_case c.args.energies.now.bounded.priced) (certificate_in c.args.energies.now.bounded.priced.certificate)) RowBroken (first_flowgate_row (the_case c.args.energies.now.bounded.priced).version c.args.energies.now.bounded.priced.case.zones + c.args.g) (flowgate_row c.args.g) [] (sym (told (goal.at.returns c).After-at_least) ∙ c.if-at_least.false)))

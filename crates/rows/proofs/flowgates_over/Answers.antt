@@ -17,13 +17,13 @@ loop-g-init c = search_none _ _ _ 1 (λ i. refl) _
 
 pub returns-in-Some : goal.returns-in-Some
 returns-in-Some c =
-    let s = first_flowgate_row c.args.bounded.now.priced.case.zones in
+    let s = first_flowgate_row (the_case c.args.bounded.now.priced).version c.args.bounded.now.priced.case.zones in
     let e : s + c.loop-g.g * 1 ≡ s + c.loop-g.g = omega arith in
     rw flowgate_blocks at (search_stop _ _ _ 1 (λ i. refl) _ c.loop-g.g c.loop-g.invariant c.flowgate_over.result (rw (c.new-energies.ensures.bounded, ← e) at c.flowgate_over.ensures) _ c.in-Some.row (flowgate_below c.args.bounded.now.standing.prices (omega arith)) cc)
 
 pub loop-g-preserved : goal.loop-g-preserved
 loop-g-preserved c =
-    let s = first_flowgate_row c.args.bounded.now.priced.case.zones in
+    let s = first_flowgate_row (the_case c.args.bounded.now.priced).version c.args.bounded.now.priced.case.zones in
     let e : s + c.loop-g.g * 1 ≡ s + c.loop-g.g = omega arith in
     search_more _ _ _ 1 (λ i. refl) _ c.loop-g.g c.loop-g.invariant c.flowgate_over.result (rw (c.new-energies.ensures.bounded, ← e) at c.flowgate_over.ensures) cc
 

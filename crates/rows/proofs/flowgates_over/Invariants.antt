@@ -11,4 +11,4 @@ use Rattle.certificate_records.specs.Reader.{certificate_in}
 use Rattle.rows.proofs.flowgates_over.Given as goal
 
 abbrev pub invariant-loop-g : goal.invariant-loop-g
-invariant-loop-g l = first_failing (row_met (the_case l.bounded.priced) (certificate_in l.bounded.priced.certificate)) RowBroken (first_flowgate_row l.bounded.priced.case.zones) (across (λ g. flowgate_row g ∷ []) (upto l.g)) ≡ clear
+invariant-loop-g l = first_failing (row_met (the_case l.bounded.priced) (certificate_in l.bounded.priced.certificate)) RowBroken (first_flowgate_row (the_case l.bounded.priced).version l.bounded.priced.case.zones) (across (λ g. flowgate_row g ∷ []) (upto l.g)) ≡ clear

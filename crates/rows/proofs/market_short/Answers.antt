@@ -11,4 +11,4 @@ use Rattle.rows.proofs.market_short.Goals as goal
 pub returns : goal.returns
 returns c =
     rw (c.first_short.ensures, c.args.have.now.market_given, c.cleared-need.ensures, market_tests (the_case c.args.have.now.bounded.priced) (certificate_in c.args.have.now.bounded.priced.certificate) c.args.have.now.bounded.priced.case.resources (resources_is c.args.have.now.bounded.standing.prices.case_bytes))
-    (first_false_lem (row_met (the_case c.args.have.now.bounded.priced) (certificate_in c.args.have.now.bounded.priced.certificate)) RowBroken 2 market_rows)
+    (first_false_lem (row_met (the_case c.args.have.now.bounded.priced) (certificate_in c.args.have.now.bounded.priced.certificate)) RowBroken 2 (market_rows (the_case c.args.have.now.bounded.priced)))

@@ -18,5 +18,5 @@ held_is c = c.limits-held.ensures
 
 pub returns : goal.returns
 returns c =
-    rw (c.first_outside.ensures, c.first_limit_row.ensures, c.amounts-own.ensures, held_is (goal.at.returns c).After-limits-held, limit_tests_lem (the_case c.args.kept.now.bounded.priced) (certificate_in c.args.kept.now.bounded.priced.certificate) c.args.i (resource_below c.args.kept.now.bounded.standing.prices c.requires))
-    (first_false_lem (row_met (the_case c.args.kept.now.bounded.priced) (certificate_in c.args.kept.now.bounded.priced.certificate)) RowBroken (first_limit_row c.args.kept.now.bounded.priced.case.zones c.args.kept.now.bounded.priced.case.flowgates + c.args.i * resource_row_count) (map (limit_row c.args.i) limits))
+    rw (c.first_outside.ensures, c.first_limit_row.ensures, c.resource_rows-numbers.ensures, c.amounts-own.ensures, held_is (goal.at.returns c).After-limits-held, limit_tests_lem (the_case c.args.kept.now.bounded.priced) (certificate_in c.args.kept.now.bounded.priced.certificate) c.args.i (resource_below c.args.kept.now.bounded.standing.prices c.requires))
+    (first_false_lem (row_met (the_case c.args.kept.now.bounded.priced) (certificate_in c.args.kept.now.bounded.priced.certificate)) RowBroken (first_limit_row (the_case c.args.kept.now.bounded.priced).version c.args.kept.now.bounded.priced.case.zones c.args.kept.now.bounded.priced.case.flowgates + c.args.i * resource_row_count (the_case c.args.kept.now.bounded.priced).version) (map (limit_row c.args.i) (limits (the_case c.args.kept.now.bounded.priced).version)))

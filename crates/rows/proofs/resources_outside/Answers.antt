@@ -7,13 +7,13 @@ use Rattle.prices.specs.PricedCase.{the_case}
 use Rattle.rows.proofs.resources_outside.Goals as goal
 
 pub loop-i-init : goal.loop-i-init
-loop-i-init c = search_none _ _ _ resource_row_count (λ i. refl) _
+loop-i-init c = search_none _ _ _ (resource_row_count (the_case c.args.kept.now.bounded.priced).version) (λ i. refl) _
 
 pub returns-in-Some : goal.returns-in-Some
-returns-in-Some c = search_stop _ _ _ resource_row_count (λ i. refl) _ c.loop-i.i c.loop-i.invariant c.resource_outside.result c.resource_outside.ensures _ c.in-Some.row (resource_below c.args.kept.now.bounded.standing.prices (omega arith)) cc
+returns-in-Some c = search_stop _ _ _ (resource_row_count (the_case c.args.kept.now.bounded.priced).version) (λ i. refl) _ c.loop-i.i c.loop-i.invariant c.resource_outside.result c.resource_outside.ensures _ c.in-Some.row (resource_below c.args.kept.now.bounded.standing.prices (omega arith)) cc
 
 pub loop-i-preserved : goal.loop-i-preserved
-loop-i-preserved c = search_more _ _ _ resource_row_count (λ i. refl) _ c.loop-i.i c.loop-i.invariant c.resource_outside.result c.resource_outside.ensures cc
+loop-i-preserved c = search_more _ _ _ (resource_row_count (the_case c.args.kept.now.bounded.priced).version) (λ i. refl) _ c.loop-i.i c.loop-i.invariant c.resource_outside.result c.resource_outside.ensures cc
 
 pub returns : goal.returns
 returns c =

@@ -11,4 +11,4 @@ use Rattle.certificate_records.specs.Reader.{certificate_in}
 use Rattle.rows.proofs.resources_outside.Given as goal
 
 abbrev pub invariant-loop-i : goal.invariant-loop-i
-invariant-loop-i l = first_failing (row_met (the_case l.kept.bounded.priced) (certificate_in l.kept.bounded.priced.certificate)) RowBroken (first_limit_row l.kept.bounded.priced.case.zones l.kept.bounded.priced.case.flowgates) (across (λ i. map (limit_row i) limits) (upto l.i)) ≡ clear
+invariant-loop-i l = first_failing (row_met (the_case l.kept.bounded.priced) (certificate_in l.kept.bounded.priced.certificate)) RowBroken (first_limit_row (the_case l.kept.bounded.priced).version l.kept.bounded.priced.case.zones l.kept.bounded.priced.case.flowgates) (across (λ i. map (limit_row i) (limits (the_case l.kept.bounded.priced).version)) (upto l.i)) ≡ clear
