@@ -2,11 +2,14 @@
 use mathlib.Core.Path.{◌≡◌, refl, sym, ap, ◌∙◌}
 use mathlib.Core.List.{List, [], ◌∷◌, ◌++◌, map, map-append, map-map}
 use Prim.Native.Nat.{ℕ, ◌+◌, ◌<◌}
-use native.Mathlib.Omega.{arith}
 use lib.IntN.{ℤ, pos, nat_abs, ◌+ℤ◌, ◌-ℤ◌, ◌*ℤ◌}
-use lib.ListN.{length, set, drop, length-append, length-map}
+use lib.ListN.{length, set, drop, length-map}
 use Rattle.arith.specs.Sums.{Each, upto, across}
 use Rattle.arith.proofs.Lists.{each-upto, map-upto, length-upto}
+use Rattle.market.proofs.Versions.{all_four_curves}
+use Rattle.market.proofs.Lengths.{resource_priced}
+use Rattle.market.specs.declared.version.Version.{Version}
+use Rattle.market.specs.declared.version.Version.TheVariants.{First as first}
 use Rattle.market.specs.Case.{Case, curves, energy_steps, curve_steps}
 use Rattle.market.specs.declared.Curve.{Curve}
 use Rattle.market.specs.declared.Curve.TheVariants.{Operating as operating, RegulatingPlusSpinning as regulating_plus_spinning, Regulating as regulating, ShortTerm as short_term}
@@ -73,31 +76,27 @@ module _ (c : Case) (x : Schedule) (y : Prices) where
     steps_are : map (energy_charge (nets_of c y i) (on_line (c.resource i)) (offer_steps_of (c.resource i)) (x (provided_quantity i energy))) (upto energy_steps) ≡ map (priced_charge c x y) (map (priced_energy_step i) (upto energy_steps))
     steps_are = map_same _ _ (upto energy_steps) (each-upto _ energy_steps energy_charge_is) ∙ sym (map-map (priced_charge c x y) (priced_energy_step i) (upto energy_steps))
 
-    reserves_are : reserve_charges (nets_of c y i) (amounts_of x i) (reserve_bounds_of c (c.resource i)) ≡ map (priced_charge c x y) (map (priced_whole i) reserve_services)
+    reserves_are : reserve_charges (nets_of c y i) (amounts_of x i) (reserve_bounds_of c (c.resource i)) ≡ map (priced_charge c x y) (map (priced_whole i) (reserve_services c.version))
     unfolding reserve_charges nets_of amounts_of reserve_bounds_of priced_charge lowest priced_upper_bound part
-    reserves_are = refl
+    reserves_are = go c.version
+      where
+        go : (version : Version) → reserve_charges (nets_of c y i) (amounts_of x i) (reserve_bounds_of c (c.resource i)) ≡ map (priced_charge c x y) (map (priced_whole i) (reserve_services version))
+        go first = refl
 
     pub resource_is : map (energy_charge (nets_of c y i) (on_line (c.resource i)) (offer_steps_of (c.resource i)) (x (provided_quantity i energy))) (upto energy_steps)
         ++ reserve_charges (nets_of c y i) (amounts_of x i) (reserve_bounds_of c (c.resource i))
-        ≡ map (priced_charge c x y) (priced_of i)
-    resource_is = rw (steps_are, reserves_are) (sym (map-append (priced_charge c x y) (map (priced_energy_step i) (upto energy_steps)) (map (priced_whole i) reserve_services)))
+        ≡ map (priced_charge c x y) (priced_of c.version i)
+    resource_is = rw (steps_are, reserves_are) (sym (map-append (priced_charge c x y) (map (priced_energy_step i) (upto energy_steps)) (map (priced_whole i) (reserve_services c.version))))
 
-  pub resource_count : (i : ℕ) → length (map (priced_charge c x y) (priced_of i)) ≡ resource_priced_count
-  resource_count i =
-      omega (
-        arith,
-        length-map (priced_of i) (priced_charge c x y),
-        length-append (map (priced_energy_step i) (upto energy_steps)) (map (priced_whole i) reserve_services),
-        length-map (upto energy_steps) (priced_energy_step i),
-        length-upto energy_steps,
-      )
+  pub resource_count : (i : ℕ) → length (map (priced_charge c x y) (priced_of c.version i)) ≡ resource_priced_count c.version
+  resource_count i = length-map (priced_of c.version i) (priced_charge c x y) ∙ resource_priced c.version i
 
   -- ---- the curves
   curve_charge_is : (k : Curve) (j : ℕ) → j < curve_steps → curve_charge (millicents (y (market_row k))) (curve_steps_of c k) (x (cleared_quantity k)) j ≡ priced_charge c x y (priced_curve_step k j)
   unfolding curve_step_charge curve_step_least priced_charge part curve_step_of
   curve_charge_is k j l =
       charge_by
-      (ap (λ (t : Step). y (market_row k) -ℤ pos 1000 *ℤ t.price.0) (curve_step_is c k j l) ∙ sym ((net_prices_in_words c y).curve_step k j))
+      (ap (λ (t : Step). y (market_row k) -ℤ pos 1000 *ℤ t.price.0) (curve_step_is c k j l) ∙ sym ((net_prices_in_words c y).curve_step k (all_four_curves c.version k) j))
       (ap pos (filled_same (widths_of (curve_step (curve_steps_of c k))) (c.curve_width k) (x (cleared_quantity k)) curve_steps (λ m l. ap width_in (curve_step_is c k m l)) j l))
       (curve_step_least_is c y k j l)
 
@@ -107,13 +106,17 @@ module _ (c : Case) (x : Schedule) (y : Prices) where
   -- four steps each, two and two
   pub curves_are : (map (priced_charge c x y) (curve_priced operating) ++ map (priced_charge c x y) (curve_priced regulating_plus_spinning))
       ++ (map (priced_charge c x y) (curve_priced regulating) ++ map (priced_charge c x y) (curve_priced short_term))
-      ≡ map (priced_charge c x y) (across curve_priced curves)
+      ≡ map (priced_charge c x y) (across curve_priced (curves c.version))
   unfolding upto across
   curves_are = refl
 
   -- ---- all
-  pub priced_are : across (λ i. map (priced_charge c x y) (priced_of i)) (upto c.resources) ++ map (priced_charge c x y) (across curve_priced curves) ≡ map (priced_charge c x y) (priced c)
+  pub priced_are : across (λ i. map (priced_charge c x y) (priced_of c.version i)) (upto c.resources) ++ map (priced_charge c x y) (across curve_priced (curves c.version)) ≡ map (priced_charge c x y) (priced c)
   unfolding priced
   priced_are =
-      ap (λ (l : List ℤ). l ++ map (priced_charge c x y) (across curve_priced curves)) (sym (map-across (priced_charge c x y) priced_of (upto c.resources)))
-      ∙ sym (map-append (priced_charge c x y) (across priced_of (upto c.resources)) (across curve_priced curves))
+      ap (λ (l : List ℤ). l ++ map (priced_charge c x y) (across curve_priced (curves c.version))) (sym (map-across (priced_charge c x y) (priced_of c.version) (upto c.resources)))
+      ∙ sym (map-append (priced_charge c x y) (across (priced_of c.version) (upto c.resources)) (across curve_priced (curves c.version)))
+
+-- of what is priced of a resource
+pub resource_priced_is : (version : Version) → resource_priced_count version ≡ 14
+resource_priced_is first = refl

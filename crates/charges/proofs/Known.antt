@@ -3,15 +3,15 @@
 use Rattle.market.specs.declared.Step.{Step}
 use Rattle.market.specs.declared.PerService.{PerService}
 use Rattle.market.specs.declared.PerCurve.{PerCurve}
-use mathlib.Core.Path.{◌≡◌, refl, ◌∙◌}
+use mathlib.Core.Path.{ap, ◌≡◌, refl, ◌∙◌}
 use mathlib.Core.Bool.{Bool}
 use mathlib.Core.List.{List, ◌++◌, map}
 use Prim.Native.Nat.{ℕ, ◌+◌, ◌*◌, ◌<◌}
-use native.Mathlib.Omega.{arith}
 use lib.IntN.{ℤ, nat_abs}
 use lib.ListN.{length, drop, length-map}
 use Rattle.arith.specs.Sums.{upto, across}
 use Rattle.arith.proofs.Lists.{length-across, length-upto}
+use Rattle.market.proofs.Versions.{all_four_curves}
 use Rattle.market.specs.Case.{Case, curves, energy_steps}
 use Rattle.market.specs.declared.Curve.{Curve}
 use Rattle.market.specs.declared.Curve.TheVariants.{Operating as operating, RegulatingPlusSpinning as regulating_plus_spinning, Regulating as regulating, ShortTerm as short_term}
@@ -68,21 +68,21 @@ module _ {b q : List ℕ} {r z f : ℕ} (s : Standing b q r z f) where
 
   -- ---- a curve
   pub curve_fits : (k : Curve) → CurveRoom (millicents (y (market_row k))) (power (x (cleared_quantity k)))
-  curve_fits k = record { row_price = ((prices_in_range s.prices).price (market_row k) tt).le; cleared = cleared_known s k }
+  curve_fits k = record { row_price = ((prices_in_range s.prices).price (market_row k) (all_four_curves c.version k)).le; cleared = cleared_known s k }
 
   -- ---- all
-  pub all_listed : across (resource_charges b q) (upto r) ++ map (charge_in b q) (across curve_priced curves) ≡ map (charge_in b q) (priced c)
+  pub all_listed : across (resource_charges b q) (upto r) ++ map (charge_in b q) (across curve_priced (curves (case_of b).version)) ≡ map (charge_in b q) (priced c)
   all_listed = rw (resources_is s.prices.case_bytes) (priced_are c x y)
 
   -- the rows' charges, by the code's count
-  pub rows_counted : length (map (row_charge c x y) (rows c)) ≡ row_count_of r z f
+  pub rows_counted : length (map (row_charge c x y) (rows c)) ≡ row_count_of (case_of b).version r z f
   rows_counted = rw (resources_is s.prices.case_bytes, zones_is s.prices.case_bytes, flowgates_is s.prices.case_bytes) (length-map (rows c) (row_charge c x y) ∙ row_count_lem c)
 
   -- and then those of what is priced
-  pub charges_listed : (o : List ℤ) → (map (row_charge c x y) (rows c) ++ map (priced_charge c x y) (priced c)) ++ drop (row_count_of r z f + priced_count_of r) o ≡ charges c x y ++ drop (charge_count c) o
+  pub charges_listed : (o : List ℤ) → (map (row_charge c x y) (rows c) ++ map (priced_charge c x y) (priced c)) ++ drop (row_count_of (case_of b).version r z f + priced_count_of (case_of b).version r) o ≡ charges c x y ++ drop (charge_count c) o
   unfolding charges
   charges_listed o =
-      let e : row_count_of r z f + priced_count_of r ≡ charge_count c = omega (arith, resources_is s.prices.case_bytes, zones_is s.prices.case_bytes, flowgates_is s.prices.case_bytes) in
+      let e : row_count_of (case_of b).version r z f + priced_count_of (case_of b).version r ≡ charge_count c = rw (resources_is s.prices.case_bytes, zones_is s.prices.case_bytes, flowgates_is s.prices.case_bytes) refl in
       rw e
 
 -- ---- the curves that are read
@@ -102,7 +102,7 @@ module _ (b q : List ℕ) where
       first ≡ curve_steps_of (case_of b) operating → second ≡ curve_steps_of (case_of b) regulating_plus_spinning → third ≡ curve_steps_of (case_of b) regulating → fourth ≡ curve_steps_of (case_of b) short_term →
       (map (curve_charge p.operating first (nat_abs a.operating.0)) (upto 4) ++ map (curve_charge p.regulating_plus_spinning second (nat_abs a.regulating_plus_spinning.0)) (upto 4))
       ++ (map (curve_charge p.regulating third (nat_abs a.regulating.0)) (upto 4) ++ map (curve_charge p.short_term fourth (nat_abs a.short_term.0)) (upto 4))
-      ≡ map (charge_in b q) (across curve_priced curves)
+      ≡ map (charge_in b q) (across curve_priced (curves (case_of b).version))
   unfolding reserve_prices_of cleared_of
   curves_listed e g d₁ d₂ d₃ d₄ =
       let one = curve_listed operating (λ i. (e i).operating) d₁ (λ i. (g i).operating) in
@@ -113,6 +113,7 @@ module _ (b q : List ℕ) where
       ∙ curves_are (case_of b) (certificate_of q).amount (certificate_of q).price
 
   -- ---- each resource has as many
-  pub resources_count : (n : ℕ) → length (across (resource_charges b q) (upto n)) ≡ n * resource_priced_count
+  pub resources_count : (n : ℕ) → length (across (resource_charges b q) (upto n)) ≡ n * resource_priced_count (case_of b).version
   resources_count n =
-      omega (arith, length-across (resource_charges b q) resource_priced_count (resource_count (case_of b) (certificate_of q).amount (certificate_of q).price) (upto n), length-upto n)
+      length-across (resource_charges b q) (resource_priced_count (case_of b).version) (resource_count (case_of b) (certificate_of q).amount (certificate_of q).price) (upto n)
+      ∙ ap (λ (m : ℕ). m * resource_priced_count (case_of b).version) (length-upto n)

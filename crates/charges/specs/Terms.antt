@@ -22,7 +22,7 @@ charge_in b q = priced_charge (case_of b) (certificate_of q).amount (certificate
 
 -- of resource i: ten steps, g, c, s, o
 abbrev pub resource_charges : List ℕ → List ℕ → ℕ → List ℤ
-resource_charges b q i = map (charge_in b q) (priced_of i)
+resource_charges b q i = map (charge_in b q) (priced_of (case_of b).version i)
 
 -- ---- of records
 -- net price × amount, less the lesser of 0 and net price × upper bound

@@ -8,10 +8,12 @@ ghost use Rattle.arith.specs.Sums.{upto, across};
 ghost use Rattle.market.specs.Case.{curves};
 ghost use Rattle.market.specs.Cost.{curve_priced, priced, resource_priced_count, curve_priced_count, priced_count_of};
 ghost use Rattle.market.specs.Charges.{priced_charge, charges, charge_count, charge_count_of};
+ghost use Rattle.market.specs.Rows.{row_count_of};
 ghost use Rattle.market.specs.Prices.{lmp_of};
 ghost use Rattle.market.specs.Records.{grains, millicents};
 ghost use Rattle.market.specs.Sizes.{most_power, most_curve_width};
 ghost use Rattle.case_records.specs.Ranged.{UpTo};
+ghost use Rattle.case_reader.specs.Reader.{case_in};
 ghost use Rattle.capabilities.specs.Sizes.{SmallBounds};
 ghost use Rattle.prices.specs.Written.{Lmps};
 ghost use Rattle.net_prices.specs.Sizes.{SmallPrice};
@@ -20,11 +22,9 @@ ghost use Rattle.charges.specs.Terms.{charge_in, resource_charges, charge_of, st
 ghost use Rattle.prices.specs.PricedCase.{the_case, the_prices, the_amounts, case_bytes, certificate_bytes};
 
 use capabilities::KeptCase;
+use case_reader::SizedCase;
 use limits::{CurveInRange, OfferInRange, ReserveBounds};
-use market::{
-    Curve, ENERGY_STEPS, Grains, Kw, MOST_RESOURCES, Millicents, RESOURCE_PRICED, RESOURCE_ROWS,
-    SYSTEM_ROWS, Step, ZONE_ROWS,
-};
+use market::{Curve, ENERGY_STEPS, Grains, Kw, MOST_RESOURCES, Millicents, Step, ZONE_ROWS};
 use net_prices::Nets;
 use prices::{BoundedAmounts, BoundedCase};
 
@@ -103,9 +103,9 @@ fn write_reserves(nets: Nets, own: BoundedAmounts, uppers: ReserveBounds, out: &
 
 // The fourteen charges of resource i, its LMP being `lmp`.
 fn write_resource(kept: &KeptCase<'_>, i: usize, lmp: Millicents, out: &mut [i64])
-    requires room { (i < kept.now.bounded.priced.case.resources) × (resource_priced_count ≤ length out.old) }
+    requires room { (i < kept.now.bounded.priced.case.resources) × (resource_priced_count (the_case kept.now.bounded.priced).version ≤ length out.old) }
     requires lmp_value { lmp ≡ millicents (lmp_of (the_case kept.now.bounded.priced) (the_prices kept.now.bounded.priced) i) }
-    ensures { out.new ≡ resource_charges (case_bytes kept.now.bounded.priced) (certificate_bytes kept.now.bounded.priced) i ++ drop resource_priced_count out.old }
+    ensures { out.new ≡ resource_charges (case_bytes kept.now.bounded.priced) (certificate_bytes kept.now.bounded.priced) i ++ drop (resource_priced_count (the_case kept.now.bounded.priced).version) out.old }
 {
     let resource = kept.bounded.priced.case.resource(i);
     let own = kept.bounded.amounts(i);
@@ -119,18 +119,26 @@ fn write_resource(kept: &KeptCase<'_>, i: usize, lmp: Millicents, out: &mut [i64
     write_reserves(nets, own, uppers, &mut out[10..]);
 }
 
+// How many charges of what is priced a resource has.
+fn resource_count(case: &SizedCase<'_>) -> usize
+    ensures { result ≡ resource_priced_count (case_in case.now).version }
+{
+    case.version().resource_priced()
+}
+
 // Each resource's charges, from its own place on, with its LMP. Kept apart from what calls it, for its registers, as
 // `case_soundness::resources_sound` is.
 #[inline(never)]
 #[tactic(auto, unfolding(arith::specs::Sums::upto, arith::specs::Sums::across))]
 fn write_resources(kept: &KeptCase<'_>, lmps: &[i64], out: &mut [i64])
-    requires room { kept.now.bounded.priced.case.resources * resource_priced_count ≤ length out.old }
+    requires room { kept.now.bounded.priced.case.resources * resource_priced_count (the_case kept.now.bounded.priced).version ≤ length out.old }
     requires lmps { Lmps (case_bytes kept.now.bounded.priced) (certificate_bytes kept.now.bounded.priced) kept.now.bounded.priced.case.resources lmps.now }
-    ensures { out.new ≡ across (resource_charges (case_bytes kept.now.bounded.priced) (certificate_bytes kept.now.bounded.priced)) (upto kept.now.bounded.priced.case.resources) ++ drop (kept.now.bounded.priced.case.resources * resource_priced_count) out.old }
+    ensures { out.new ≡ across (resource_charges (case_bytes kept.now.bounded.priced) (certificate_bytes kept.now.bounded.priced)) (upto kept.now.bounded.priced.case.resources) ++ drop (kept.now.bounded.priced.case.resources * resource_priced_count (the_case kept.now.bounded.priced).version) out.old }
 {
+    let own = resource_count(&kept.bounded.priced.case);
     for i in 0..kept.bounded.priced.case.resources {
         let lmp = Millicents(lmps[i]);
-        write_resource(kept, i, lmp, &mut out[i * RESOURCE_PRICED..]);
+        write_resource(kept, i, lmp, &mut out[i * own..]);
     }
 }
 
@@ -179,8 +187,8 @@ fn write_pair(first: ClearedCurve, second: ClearedCurve, out: &mut [i64])
 
 // The four curves in order.
 fn write_curves(bounded: &BoundedCase<'_>, out: &mut [i64])
-    requires { curve_priced_count ≤ length out.old }
-    ensures { out.new ≡ map (charge_in (case_bytes bounded.now.priced) (certificate_bytes bounded.now.priced)) (across curve_priced curves) ++ drop curve_priced_count out.old }
+    requires { curve_priced_count (the_case bounded.now.priced).version ≤ length out.old }
+    ensures { out.new ≡ map (charge_in (case_bytes bounded.now.priced) (certificate_bytes bounded.now.priced)) (across curve_priced (curves (the_case bounded.now.priced).version)) ++ drop (curve_priced_count (the_case bounded.now.priced).version) out.old }
 {
     let prices = bounded.priced.certificate.market_prices();
     let cleared = bounded.priced.certificate.cleared();
@@ -211,27 +219,36 @@ fn write_curves(bounded: &BoundedCase<'_>, out: &mut [i64])
 // ---- all that is priced
 
 fn write_priced_charges(kept: &KeptCase<'_>, out: &mut [i64])
-    requires { priced_count_of kept.now.bounded.priced.case.resources ≤ length out.old }
-    ensures { out.new ≡ map (priced_charge (the_case kept.now.bounded.priced) (the_amounts kept.now.bounded.priced) (the_prices kept.now.bounded.priced)) (priced (the_case kept.now.bounded.priced)) ++ drop (priced_count_of kept.now.bounded.priced.case.resources) out.old }
+    requires { priced_count_of (the_case kept.now.bounded.priced).version kept.now.bounded.priced.case.resources ≤ length out.old }
+    ensures { out.new ≡ map (priced_charge (the_case kept.now.bounded.priced) (the_amounts kept.now.bounded.priced) (the_prices kept.now.bounded.priced)) (priced (the_case kept.now.bounded.priced)) ++ drop (priced_count_of (the_case kept.now.bounded.priced).version kept.now.bounded.priced.case.resources) out.old }
 {
     let mut lmps = [0i64; MOST_RESOURCES];
     kept.bounded.priced.write_lmps(&mut lmps);
     write_resources(kept, &lmps, out);
-    let at = kept.bounded.priced.case.resources * RESOURCE_PRICED;
+    let own = resource_count(&kept.bounded.priced.case);
+    let at = kept.bounded.priced.case.resources * own;
     write_curves(&kept.bounded, &mut out[at..]);
 }
 
 // ---- all charges
 
+// How many rows the case has.
+fn row_count(case: &SizedCase<'_>) -> usize
+    ensures { result ≡ row_count_of (case_in case.now).version case.now.resources case.now.zones case.now.flowgates }
+{
+    let version = case.version();
+    version.system_rows()
+        + case.zones * ZONE_ROWS
+        + case.flowgates
+        + case.resources * version.resource_rows()
+}
+
 // The rows', then those of what is priced.
 pub fn write_charges(kept: &KeptCase<'_>, out: &mut [i64])
-    requires { charge_count_of kept.now.bounded.priced.case.resources kept.now.bounded.priced.case.zones kept.now.bounded.priced.case.flowgates ≤ length out.old }
+    requires { charge_count_of (the_case kept.now.bounded.priced).version kept.now.bounded.priced.case.resources kept.now.bounded.priced.case.zones kept.now.bounded.priced.case.flowgates ≤ length out.old }
     ensures { out.new ≡ charges (the_case kept.now.bounded.priced) (the_amounts kept.now.bounded.priced) (the_prices kept.now.bounded.priced) ++ drop (charge_count (the_case kept.now.bounded.priced)) out.old }
 {
     row_charges::write_row_charges(kept, out);
-    let at = SYSTEM_ROWS
-        + kept.bounded.priced.case.zones * ZONE_ROWS
-        + kept.bounded.priced.case.flowgates
-        + kept.bounded.priced.case.resources * RESOURCE_ROWS;
+    let at = row_count(&kept.bounded.priced.case);
     write_priced_charges(kept, &mut out[at..]);
 }

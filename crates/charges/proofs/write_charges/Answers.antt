@@ -17,6 +17,7 @@ returns c =
     let b = (case_bytes c.args.kept.now.bounded.priced) in
     let q = (certificate_bytes c.args.kept.now.bounded.priced) in
     let o = c.args.out.now in
-    let at = row_count_of c.args.kept.now.bounded.priced.case.resources c.args.kept.now.bounded.priced.case.zones c.args.kept.now.bounded.priced.case.flowgates in
-    write_on (map (row_charge (case_of b) (certificate_of q).amount (certificate_of q).price) (rows (case_of b))) (map (charge_in b q) (priced (case_of b))) o c.write_row_charges.new.out c.write_priced_charges.new.out at (priced_count_of c.args.kept.now.bounded.priced.case.resources) at (rows_counted c.args.kept.now.bounded.standing) refl (omega arith) c.write_row_charges.ensures c.write_priced_charges.ensures
-    ∙ charges_listed c.args.kept.now.bounded.standing o
+    let at = row_count_of (case_of b).version c.args.kept.now.bounded.priced.case.resources c.args.kept.now.bounded.priced.case.zones c.args.kept.now.bounded.priced.case.flowgates in
+    rw c.row_count-at.ensures
+    (write_on (map (row_charge (case_of b) (certificate_of q).amount (certificate_of q).price) (rows (case_of b))) (map (charge_in b q) (priced (case_of b))) o c.write_row_charges.new.out c.write_priced_charges.new.out at (priced_count_of (case_of b).version c.args.kept.now.bounded.priced.case.resources) at (rows_counted c.args.kept.now.bounded.standing) refl (omega arith) c.write_row_charges.ensures (rw c.row_count-at.ensures at c.write_priced_charges.ensures)
+    ∙ charges_listed c.args.kept.now.bounded.standing o)

@@ -11,9 +11,9 @@ use Rattle.arith.proofs.Buffers.{rest_length, write_on}
 use Rattle.charges.proofs.Known.{curve_fits, curves_listed, pair_count}
 use Rattle.charges.proofs.write_curves.Goals as goal
 use Rattle.charges.proofs.write_curves.Goals.{After-write_pair}
-use Rattle.prices.specs.PricedCase.{case_bytes, certificate_bytes}
+use Rattle.prices.specs.PricedCase.{the_case, case_bytes, certificate_bytes}
 
-room : (c : After-write_pair) → curve_priced_count ≤ length c.write_pair.new.out
+room : (c : After-write_pair) → curve_priced_count (the_case c.args.bounded.now.priced).version ≤ length c.write_pair.new.out
 room c = omega (arith, c.write_pair.auto.out, c.requires)
 
 pub write_pair-requires : goal.write_pair-requires
@@ -36,4 +36,4 @@ returns c =
     let w = c.write_pair in
     let x = c.write_pair-2 in
     write_on _ _ o w.new.out x.new.out 8 8 8 (pair_count _ _) refl (omega arith) w.ensures x.ensures
-    ∙ ap (λ (l : List ℤ). l ++ drop curve_priced_count o) (curves_listed b q c.market_prices-prices.ensures c.cleared-cleared.ensures c.curve.ensures c.curve-2.ensures c.curve-3.ensures c.curve-4.ensures)
+    ∙ ap (λ (l : List ℤ). l ++ drop (curve_priced_count (the_case c.args.bounded.now.priced).version) o) (curves_listed b q c.market_prices-prices.ensures c.cleared-cleared.ensures c.curve.ensures c.curve-2.ensures c.curve-3.ensures c.curve-4.ensures)

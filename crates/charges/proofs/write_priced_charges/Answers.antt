@@ -11,7 +11,7 @@ use Rattle.arith.proofs.Buffers.{write_on}
 use Rattle.prices.proofs.Written.{lmps_written}
 use Rattle.charges.specs.Terms.{charge_in, resource_charges}
 use Rattle.charges.proofs.Known.{resources_count, all_listed}
-use Rattle.prices.specs.PricedCase.{case_bytes, certificate_bytes}
+use Rattle.prices.specs.PricedCase.{the_case, case_bytes, certificate_bytes}
 use Rattle.charges.proofs.write_priced_charges.Goals as goal
 
 pub write_resources-requires-clause-lmps : goal.write_resources-requires-clause-lmps
@@ -22,6 +22,7 @@ returns c =
     let b = (case_bytes c.args.kept.now.bounded.priced) in
     let q = (certificate_bytes c.args.kept.now.bounded.priced) in
     let o = c.args.out.now in
-    let at = c.args.kept.now.bounded.priced.case.resources * resource_priced_count in
-    write_on (across (resource_charges b q) (upto c.args.kept.now.bounded.priced.case.resources)) (map (charge_in b q) (across curve_priced curves)) o c.write_resources.new.out c.write_curves.new.out at curve_priced_count at (resources_count b q c.args.kept.now.bounded.priced.case.resources) refl (omega (arith, c.requires)) c.write_resources.ensures c.write_curves.ensures
-    ∙ ap (λ (l : List ℤ). l ++ drop (at + curve_priced_count) o) (all_listed c.args.kept.now.bounded.standing)
+    let at = c.args.kept.now.bounded.priced.case.resources * resource_priced_count (the_case c.args.kept.now.bounded.priced).version in
+    rw c.resource_count-own.ensures
+    (write_on (across (resource_charges b q) (upto c.args.kept.now.bounded.priced.case.resources)) (map (charge_in b q) (across curve_priced (curves (the_case c.args.kept.now.bounded.priced).version))) o c.write_resources.new.out c.write_curves.new.out at (curve_priced_count (the_case c.args.kept.now.bounded.priced).version) at (resources_count b q c.args.kept.now.bounded.priced.case.resources) refl (omega (arith, c.requires)) c.write_resources.ensures (rw c.resource_count-own.ensures at c.write_curves.ensures)
+    ∙ ap (λ (l : List ℤ). l ++ drop (at + curve_priced_count (the_case c.args.kept.now.bounded.priced).version) o) (all_listed c.args.kept.now.bounded.standing))

@@ -1,7 +1,7 @@
 use mathlib.Core.List.{List, ◌++◌, map}
 use mathlib.Core.Path.{◌≡◌, refl, sym, ap, ◌∙◌}
 use mathlib.Core.Bool.{false}
-use Prim.Native.Nat.{◌≤◌}
+use Prim.Native.Nat.{ℕ, ◌≤◌}
 use native.Mathlib.Omega.{arith}
 use lib.ListN.{length, drop}
 use lib.IntN.{ℤ, pos, nat_abs}
@@ -13,7 +13,7 @@ use Rattle.limits.specs.Together.{reserve_bounds_of}
 use Rattle.arith.proofs.Buffers.{rest_length, write_on}
 use Rattle.costs.proofs.OffLine.{no_energy}
 use Rattle.charges.specs.Terms.{energy_charge, reserve_charges}
-use Rattle.charges.proofs.Families.{numbers_count}
+use Rattle.charges.proofs.Families.{numbers_count, resource_priced_is}
 use Rattle.charges.proofs.Known.{energy_fits, bounds_fit, resource_listed}
 use Rattle.charges.proofs.write_resource.Goals as goal
 use Rattle.charges.proofs.write_resource.Goals.{After-bounds-uppers, After-offer_steps-offer, After-on_line-on, After-resource-resource, After-write_energy}
@@ -33,7 +33,7 @@ on_line_is c = c.on_line-on.ensures
 bounds : (c : After-bounds-uppers) → c.bounds-uppers.result ≡ reserve_bounds_of (the_case c.args.kept.now.bounded.priced) ((the_case c.args.kept.now.bounded.priced).resource c.args.i)
 bounds c = c.bounds-uppers.ensures
 
-room : (c : After-write_energy) → resource_priced_count ≤ length c.write_energy.new.out
+room : (c : After-write_energy) → resource_priced_count (the_case c.args.kept.now.bounded.priced).version ≤ length c.write_energy.new.out
 room c = omega (arith, c.write_energy.auto.out, c.requires.room.1)
 
 idle : (c : After-on_line-on) → c.on_line-on.result ≡ false → c.amounts-own.result.amounts.energy.0 ≡ pos 0
@@ -67,4 +67,5 @@ returns c =
     let o = c.args.out.now in
     let g = energy_charge n.result.prices on.result p (nat_abs a.result.amounts.energy.0) in
     write_on (map g (upto 10)) (reserve_charges n.result.prices a.result.amounts u.result) o w.new.out x.new.out 10 4 10 (numbers_count g 10) refl (omega (arith, c.requires.room.1)) w.ensures x.ensures
-    ∙ ap (λ (l : List ℤ). l ++ drop resource_priced_count o) (resource_listed c.args.kept.now.bounded.standing c.requires.room.0 n.ensures (on_line_is (goal.at.returns c).After-on_line-on) (steps (goal.at.returns c).After-offer_steps-offer) a.ensures (bounds (goal.at.returns c).After-bounds-uppers))
+    ∙ ap (λ (m : ℕ). (map g (upto 10) ++ reserve_charges n.result.prices a.result.amounts u.result) ++ drop m o) (sym (resource_priced_is (the_case c.args.kept.now.bounded.priced).version))
+    ∙ ap (λ (l : List ℤ). l ++ drop (resource_priced_count (the_case c.args.kept.now.bounded.priced).version) o) (resource_listed c.args.kept.now.bounded.standing c.requires.room.0 n.ensures (on_line_is (goal.at.returns c).After-on_line-on) (steps (goal.at.returns c).After-offer_steps-offer) a.ensures (bounds (goal.at.returns c).After-bounds-uppers))
