@@ -3,6 +3,7 @@
 #![tactic(auto)]
 
 ghost use Rattle.std.specs.Prelude.{◌≡◌, ℕ, ◌+◌, ◌<◌, ◌≤◌, true};
+ghost use Rattle.market.specs.Version.{version_in};
 ghost use Rattle.market.specs.CaseFile.{resource_size, case_of};
 ghost use Rattle.market.specs.Bytes.{u32_at};
 ghost use Rattle.wire.specs.CaseParts.{figures_of};
@@ -10,7 +11,7 @@ ghost use Rattle.case_ranges.specs.Pieces.{ResourcesIn};
 ghost use Rattle.case_soundness.specs.Sound.{SoundPair, SoundPowers, SoundOffer, SoundResource};
 ghost use Rattle.case_soundness.specs.Ranks.{rank_of};
 
-use market::{ENERGY_STEPS, HEAD_SIZE, RESOURCE_SIZE, ZONE_SIZE};
+use market::{ENERGY_STEPS, ZONE_SIZE};
 use wire::ResourceBytes;
 
 // Of the pair of limits at a place of the record: the maximum is in range and the minimum not above it, so that it is in range too.
