@@ -25,13 +25,8 @@ ghost use Rattle.quantities.specs.Places.{first_provided};
 use capabilities::Capability;
 use certificate_records::SizedCertificate;
 use limits::{OfferInRange, ReserveBounds};
-use market::{Amounts, CURVES, Counts, Curve, CurveAmounts, Kw, Refusal, SERVICES};
+use market::{Amounts, Counts, Curve, CurveAmounts, Kw, Refusal};
 use prices::PricedCase;
-
-// Places have 32 bits. Those of resources begin behind the cleared quantities, one for each curve.
-const FIRST_PROVIDED: u32 = CURVES as u32 + 1;
-
-const PLACES_A_RESOURCE: u32 = SERVICES as u32;
 
 // ---- upper bounds
 
@@ -76,7 +71,7 @@ fn service_bounds(on: bool, reserves: ReserveBounds, offer: OfferInRange) -> Amo
 // Among a resource's five, the first of them at this place.
 fn provided_above(given: Amounts, most: Amounts, place: u32) -> Option<u32>
     requires { place ≤ 1000 }
-    ensures { (x u : Schedule) (i : ℕ) → given ≡ amounts_of x i → most ≡ amounts_of u i → found_at AboveBound result ≡ first_failing (λ a. leb (x a) (u a)) AboveBound place (map (provided_quantity i) services) }
+    ensures { (c : Case) (x u : Schedule) (i : ℕ) → given ≡ amounts_of x i → most ≡ amounts_of u i → found_at AboveBound result ≡ first_failing (λ a. leb (x a) (u a)) AboveBound place (map (provided_quantity i) (services c.version)) }
 {
     units::first_below(
         [
@@ -93,13 +88,16 @@ fn provided_above(given: Amounts, most: Amounts, place: u32) -> Option<u32>
 // These two ask for `Kept` and take no `KeptCase`: that one is past 13, which is tested here.
 fn first_provided_above(priced: &PricedCase<'_>, kept: &[Capability]) -> Option<u32>
     requires { Kept (the_case priced.now) priced.now.case.resources kept.now }
-    ensures { found_at AboveBound result ≡ first_failing (within_bound (the_case priced.now) (certificate_in priced.now.certificate)) AboveBound first_provided (across (λ i. map (provided_quantity i) services) (upto priced.now.case.resources)) }
+    ensures { found_at AboveBound result ≡ first_failing (within_bound (the_case priced.now) (certificate_in priced.now.certificate)) AboveBound (first_provided (the_case priced.now).version) (across (λ i. map (provided_quantity i) (services (the_case priced.now).version)) (upto priced.now.case.resources)) }
 {
+    let version = priced.case.version();
+    // places have 32 bits; those of resources begin behind the cleared quantities, one for each curve
+    let first_provided = 1 + version.curves();
     for i in 0..priced.case.resources {
         let own = kept[i];
         let most = service_bounds(own.on_line, own.bounds, priced.offer_steps(i));
         let given = priced.certificate.amounts(i);
-        let first = FIRST_PROVIDED + i as u32 * PLACES_A_RESOURCE;
+        let first = (first_provided + i * version.services()) as u32;
         if let Some(place) = provided_above(given, most, first) {
             return Some(place);
         }

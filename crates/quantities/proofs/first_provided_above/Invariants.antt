@@ -10,4 +10,4 @@ use Rattle.quantities.proofs.Above.{provided}
 use Rattle.quantities.proofs.first_provided_above.Given as goal
 
 abbrev pub invariant-loop-i : goal.invariant-loop-i
-invariant-loop-i l = first_failing (within_bound (the_case l.priced) (certificate_in l.priced.certificate)) AboveBound first_provided (across provided (upto l.i)) ≡ clear
+invariant-loop-i l = first_failing (within_bound (the_case l.priced) (certificate_in l.priced.certificate)) AboveBound (first_provided (the_case l.priced).version) (across (provided (the_case l.priced).version) (upto l.i)) ≡ clear
