@@ -2,6 +2,7 @@
 use Rattle.std.proofs.Common.{◌≡◌, ℕ, ◌<◌, true, ◌&&◌, List}
 use Rattle.arith.specs.Sums.{upto, all}
 use Rattle.market.specs.Bytes.{within}
+use Rattle.market.specs.Version.{version_in}
 use Rattle.market.specs.Case.{reserves, curves}
 use Rattle.market.specs.CaseFile.{case_of, case_as}
 use Rattle.market.specs.CaseCheck.{reserve_in_range, flowgate_in_range, steps_rule, limits_ordered}
@@ -15,7 +16,7 @@ use Rattle.case_check.specs.Stages.{head_right, SoundCase}
 use Rattle.case_soundness.proofs.Tests.{both}
 
 module _ {b : List ℕ} {r z f : ℕ} (h : CaseBytes b r z f) where
-  pub steps_in_turn : steps_rule (case_of b) ≡ (all (curve_right (case_of b)) curves && all (offer_right (case_of b)) (upto r))
+  pub steps_in_turn : steps_rule (case_of b) ≡ (all (curve_right (case_of b)) (curves (version_in b)) && all (offer_right (case_of b)) (upto r))
   unfolding steps_rule case_as
   steps_in_turn = rw h.resources
 
@@ -32,8 +33,8 @@ module _ {b : List ℕ} {r z f : ℕ} (h : CaseBytes b r z f) where
   unfolding case_as
   case_sound e headed zoned sound limited =
       let c = case_of b in
-      let h1 = both (within 0 128000000 c.demand && all (reserve_in_range c) reserves && all (curve_in_range c) curves) (all (curve_right c) curves) (rw e at headed) in
-      let h2 = both (within 0 128000000 c.demand && all (reserve_in_range c) reserves) (all (curve_in_range c) curves) h1.0 in
+      let h1 = both (within 0 128000000 c.demand && all (reserve_in_range c) reserves && all (curve_in_range c) (curves c.version)) (all (curve_right c) (curves c.version)) (rw e at headed) in
+      let h2 = both (within 0 128000000 c.demand && all (reserve_in_range c) reserves) (all (curve_in_range c) (curves c.version)) h1.0 in
       let h3 = both (within 0 128000000 c.demand) (all (reserve_in_range c) reserves) h2.0 in
       record {
         in_range = rw (fields_in_turn h, h3.0, h3.1, h2.1, zoned, numbered_in_range sound) limited;

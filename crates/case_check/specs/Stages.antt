@@ -28,7 +28,7 @@ CaseBytesOf b n = CaseBytes b n.resources n.zones n.flowgates
 -- 5 and 6 of the demand, the reserves' terms and the demand curves
 abbrev pub head_right : Case → Bool
 head_right c =
-    within 0 128000000 c.demand && all (reserve_in_range c) reserves && all (curve_in_range c) curves && all (curve_right c) curves
+    within 0 128000000 c.demand && all (reserve_in_range c) reserves && all (curve_in_range c) (curves c.version) && all (curve_right c) (curves c.version)
 
 -- 5 to 7 pass
 pub record SoundCase (c : Case) : Type 0 where

@@ -20,7 +20,8 @@ ghost use Rattle.case_check.specs.Pieces.{offer_starts, offer_follows, offer_rig
 
 use case_reader::SizedCase;
 use market::{
-    Counts, Curve, ENERGY_STEPS, HEAD_SIZE, MOST_FLOWGATES, MOST_RESOURCES, MOST_ZONES, Refusal,
+    Counts, Curve, ENERGY_STEPS, LEAST_CASE_SIZE, MOST_FLOWGATES, MOST_RESOURCES, MOST_ZONES,
+    Refusal,
 };
 use wire::{CaseHead, FileStep, ResourceBytes};
 
@@ -119,7 +120,7 @@ fn curve_right(head: &CaseHead<'_>, curve: Curve) -> bool
 
 #[tactic(auto, unfolding(arith::specs::Sums::all))]
 fn curves_right(head: &CaseHead<'_>) -> bool
-    ensures { result ≡ all (curve_right (head_of head.now)) curves }
+    ensures { result ≡ all (curve_right (head_of head.now)) (curves (head_of head.now).version) }
 {
     Curve::ALL.iter().all(|curve| curve_right(head, *curve))
 }
@@ -137,9 +138,9 @@ fn pairs_ordered(resource: &ResourceBytes<'_>) -> bool
     ensures { result ≡ pairs_ordered (figures_of resource.now) }
 {
     // economic, regulating, emergency
-    resource.u32(10) <= resource.u32(14)
-        && resource.u32(18) <= resource.u32(22)
-        && resource.u32(26) <= resource.u32(30)
+    resource.u32(resource.behind_flags(10)) <= resource.u32(resource.behind_flags(14))
+        && resource.u32(resource.behind_flags(18)) <= resource.u32(resource.behind_flags(22))
+        && resource.emergency_min() <= resource.u32(resource.behind_minimum(26))
 }
 
 fn limits_ordered(case: &SizedCase<'_>) -> bool
@@ -158,11 +159,12 @@ pub fn length_right(b: &[u8], least: usize) -> bool
     b.len() >= least && u64::from(wire::u32_at(b, 0)) + 4 == b.len() as u64
 }
 
+#[tactic(auto, unfolding(market::specs::CaseCheck::version_right))]
 pub fn version_right(b: &[u8]) -> bool
     requires { Within b.now 4 1 }
     ensures { result ≡ version_right b.now }
 {
-    wire::u8_at(b, 4) == 1
+    market::Version::try_from(wire::u8_at(b, 4)).is_ok()
 }
 
 // It reads, and is no conversion.
@@ -178,6 +180,7 @@ pub fn counts_at(b: &[u8]) -> Counts
     ensures { result ≡ counts_in (case_of b.now) }
 {
     Counts {
+        version: wire::version_at(b),
         resources: count_at(b, 5),
         zones: count_at(b, 6),
         flowgates: count_at(b, 7),
@@ -196,7 +199,7 @@ pub fn counts_right(n: Counts) -> bool
 // Beside `certificate_form::size_right`: a line each, over the file's own size.
 fn size_right(b: &[u8], n: Counts) -> bool
     requires { CountsWithin n.resources n.zones n.flowgates }
-    ensures { result ≡ (length b.now == case_size n.resources n.zones n.flowgates) }
+    ensures { result ≡ (length b.now == case_size n.version n.resources n.zones n.flowgates) }
 {
     b.len() == market::case_size(n)
 }
@@ -208,7 +211,7 @@ fn shape_stage(b: &[u8]) -> Result<Counts, Refusal>
     ensures answer { result ≡ answered (counts_in (case_of b.now)) (first_of (shape_grounds b.now)) }
     ensures shaped { IfOk result (CaseBytesOf b.now) }
 {
-    if !length_right(b, HEAD_SIZE) {
+    if !length_right(b, LEAST_CASE_SIZE) {
         return Err(Refusal::CaseLength);
     }
     if !version_right(b) {

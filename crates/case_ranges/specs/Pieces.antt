@@ -3,7 +3,8 @@
 use Rattle.std.specs.Prelude.{Bool, ◌&&◌, List, ◌≡◌, ℕ, ◌+◌, ◌*◌}
 use Rattle.arith.specs.Sums.{upto, all}
 use Rattle.market.specs.Bytes.{u8_at, u32_at, i16_at, i32_at, within, either_way}
-use Rattle.market.specs.Case.{Case, Resource, curves, curve_steps}
+use Rattle.market.specs.Version.{version_in}
+use Rattle.market.specs.Case.{Case, Resource, zoned_curves, curve_steps}
 use Rattle.market.specs.declared.Curve.{Curve}
 use Rattle.market.specs.CaseFile.{resource_size, flowgate_head_size, factor_size, zone_place}
 use Rattle.market.specs.CaseCheck.{resource_in_range}
@@ -29,7 +30,7 @@ abbrev pub curve_in_range : Case → Curve → Bool
 curve_in_range c k = all (curve_step_in_range c k) (upto curve_steps)
 
 abbrev pub zone_in_range : Case → ℕ → Bool
-zone_in_range c z = all (λ k. within 0 2000000 (c.zone_requirement z k)) curves
+zone_in_range c z = all (λ k. within 0 2000000 (c.zone_requirement z k)) zoned_curves
 
 -- the resource of number i
 abbrev pub resource_numbered_in_range : Case → ℕ → Bool
@@ -38,11 +39,11 @@ resource_numbered_in_range c i = resource_in_range c.zones (c.resource i)
 -- ---- where they stand
 -- so many resources lie within a file that counts so many zones
 abbrev pub ResourcesIn : List ℕ → ℕ → ℕ → Type 0
-ResourcesIn b resources zones = (zones ≡ u8_at b 6) × Within b (zone_place zones) (resources * resource_size)
+ResourcesIn b resources zones = (zones ≡ u8_at b 6) × Within b (zone_place (version_in b) zones) (resources * resource_size (version_in b))
 
 -- of the flowgate at a place: its i-th factor, and all of it with so many factors
 abbrev pub factor_in_range : List ℕ → ℕ → ℕ → Bool
-factor_in_range b at i = either_way 1000 (i16_at b (at + flowgate_head_size + i * factor_size))
+factor_in_range b at i = either_way 1000 (i16_at b (at + flowgate_head_size (version_in b) + i * factor_size))
 
 abbrev pub flowgate_in_range_at : List ℕ → ℕ → ℕ → Bool
 flowgate_in_range_at b at resources = either_way 20000000 (i32_at b at) && all (factor_in_range b at) (upto resources)

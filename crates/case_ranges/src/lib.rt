@@ -6,6 +6,7 @@
 ghost use Rattle.std.specs.Prelude.{◌≡◌, ◌+◌, ◌*◌, ◌<◌, ◌≤◌};
 ghost use Rattle.arith.specs.Sums.{upto, all};
 ghost use Rattle.market.specs.Bytes.{u8_at, u32_at, i32_at, within, either_way};
+ghost use Rattle.market.specs.Version.{version_in};
 ghost use Rattle.market.specs.Case.{reserves, curves, curve_steps, energy_steps};
 ghost use Rattle.market.specs.CaseFile.{head_size, zone_size, resource_size, case_of};
 ghost use Rattle.market.specs.CaseCheck.{powers, resource_in_range, reserve_in_range, flowgate_in_range, fields_in_range};
@@ -15,7 +16,7 @@ ghost use Rattle.case_reader.specs.Reader.{case_in};
 ghost use Rattle.case_ranges.specs.Pieces.{number_at_most, state_in_range, offer_step_in_range, curve_step_in_range, curve_in_range, zone_in_range, resource_numbered_in_range, factor_in_range, flowgate_in_range_at};
 
 use case_reader::SizedCase;
-use market::{CURVE_STEPS, Curve, ENERGY_STEPS, HEAD_SIZE, Reserve, Status, ZONE_SIZE};
+use market::{CURVE_STEPS, Curve, ENERGY_STEPS, Reserve, Status, ZONE_SIZE};
 use wire::{CaseHead, FlowgateBytes, ResourceBytes};
 
 fn either_way(v: i64, most: u32) -> bool
@@ -49,14 +50,14 @@ pub fn all_at_most(b: &[u8], at: usize, n: usize, most: u32) -> bool
 // ---- a resource
 // The n numbers from a place of its record on.
 pub fn run_at_most(resource: &ResourceBytes<'_>, place: usize, n: usize, most: u32) -> bool
-    requires { place + n * 4 ≤ resource_size }
+    requires { place + n * 4 ≤ resource_size (version_in resource.now.bytes.now) }
     ensures { result ≡ all (number_at_most most resource.now.bytes.now (resource.now.at + place)) (upto n) }
 {
     all_at_most(resource.bytes, resource.at + place, n, most)
 }
 
 fn byte_between(resource: &ResourceBytes<'_>, place: usize, low: usize, high: usize) -> bool
-    requires { place < resource_size }
+    requires { place < resource_size (version_in resource.now.bytes.now) }
     ensures { result ≡ within low high (u8_at resource.now.bytes.now (resource.now.at + place)) }
 {
     (low..=high).contains(&usize::from(resource.u8(place)))
@@ -70,7 +71,7 @@ pub fn state_in_range(resource: &ResourceBytes<'_>, zones: usize) -> bool
         && byte_between(resource, 1, 1, zones)
         && byte_between(resource, 2, 0, 1)
         && Status::try_from(resource.u8(3)).is_ok()
-        && either_way(resource.i32(6), 2000000)
+        && either_way(resource.i32(resource.behind_flags(6)), 2000000)
 }
 
 // The three pairs of limits; initial energy, the two off-line limits, self-schedule.
@@ -78,7 +79,10 @@ pub fn state_in_range(resource: &ResourceBytes<'_>, zones: usize) -> bool
 fn powers_in_range(resource: &ResourceBytes<'_>) -> bool
     ensures { result ≡ all (within 0 2000000) (powers (figures_of resource.now)) }
 {
-    run_at_most(resource, 10, 6, 2000000) && run_at_most(resource, 46, 4, 2000000)
+    run_at_most(resource, resource.behind_flags(10), 4, 2000000)
+        && resource.emergency_min() <= 2000000
+        && resource.u32(resource.behind_minimum(26)) <= 2000000
+        && run_at_most(resource, resource.behind_minimum(42), 4, 2000000)
 }
 
 fn offer_step_in_range(resource: &ResourceBytes<'_>, j: usize) -> bool
@@ -100,11 +104,11 @@ fn offer_in_range(resource: &ResourceBytes<'_>) -> bool
 fn resource_in_range(resource: &ResourceBytes<'_>, zones: usize) -> bool
     ensures { result ≡ resource_in_range zones (figures_of resource.now) }
 {
-    // ramps stand at 34, reserve prices at 62
+    // ramps stand at 30 behind the emergency minimum, reserve prices at 58
     state_in_range(resource, zones)
         && powers_in_range(resource)
-        && run_at_most(resource, 34, 3, 400000)
-        && run_at_most(resource, 62, 3, 400000)
+        && run_at_most(resource, resource.behind_minimum(30), 3, 400000)
+        && run_at_most(resource, resource.behind_minimum(58), 3, 400000)
         && offer_in_range(resource)
 }
 
@@ -154,7 +158,7 @@ fn curve_in_range(head: &CaseHead<'_>, curve: Curve) -> bool
 
 #[tactic(auto, unfolding(arith::specs::Sums::all))]
 pub fn curves_in_range(head: &CaseHead<'_>) -> bool
-    ensures { result ≡ all (curve_in_range (head_of head.now)) curves }
+    ensures { result ≡ all (curve_in_range (head_of head.now)) (curves (head_of head.now).version) }
 {
     Curve::ALL.iter().all(|curve| curve_in_range(head, *curve))
 }
@@ -163,10 +167,11 @@ pub fn curves_in_range(head: &CaseHead<'_>) -> bool
 // Of bytes and a count, since a reader asks for more than that the zones are there. Zone by zone, as the definition goes: of one run
 // of all their numbers it would have to be shown that it is the zones' runs.
 pub fn zones_in_range(b: &[u8], zones: usize) -> bool
-    requires { Within b.now head_size (zones * zone_size) }
+    requires { Within b.now (head_size (version_in b.now)) (zones * zone_size) }
     ensures { result ≡ all (zone_in_range (case_of b.now)) (upto zones) }
 {
-    (0..zones).all(|z| all_at_most(b, HEAD_SIZE + z * ZONE_SIZE, 4, 2000000))
+    let first = wire::version_at(b).head_size();
+    (0..zones).all(|z| all_at_most(b, first + z * ZONE_SIZE, 4, 2000000))
 }
 
 fn factor_in_range(flowgate: &FlowgateBytes<'_>, i: usize) -> bool

@@ -3,7 +3,8 @@ use Rattle.std.proofs.Common.{◌≡◌, ℕ, ◌+◌, ◌*◌, ◌<◌, ◌≤�
 use Rattle.arith.specs.Sums.{upto, all}
 use Rattle.market.specs.Bytes.{u32_at, within}
 use Rattle.market.specs.Case.{Resource, width_of}
-use Rattle.market.specs.CaseFile.{resource_at}
+use Rattle.market.specs.Version.{version_in}
+use Rattle.market.specs.CaseFile.{resource_at, resource_in, behind_flags, behind_minimum}
 use Rattle.market.specs.CaseCheck.{ramps, reserve_prices, resource_in_range, energy_steps_right, pairs_ordered}
 use Rattle.case_ranges.specs.Pieces.{number_at_most, state_in_range}
 use Rattle.case_ranges.proofs.Laws.{from_zero}
@@ -23,7 +24,13 @@ pair_sound low high t =
 
 -- ---- the resource at a place
 module _ (b : List ℕ) (at : ℕ) where
-  pub powers_sound : SoundPair (u32_at b (at + 10)) (u32_at b (at + 14)) → SoundPair (u32_at b (at + 18)) (u32_at b (at + 22)) → SoundPair (u32_at b (at + 26)) (u32_at b (at + 30)) → all (number_at_most 2000000 b (at + 46)) (upto 4) ≡ true → SoundPowers (resource_at b at)
+  abbrev flagged : ℕ → ℕ
+  flagged offset = at + behind_flags (version_in b) offset
+
+  abbrev limited : ℕ → ℕ
+  limited offset = at + behind_minimum (version_in b) offset
+
+  pub powers_sound : SoundPair (u32_at b (flagged 10)) (u32_at b (flagged 14)) → SoundPair (u32_at b (flagged 18)) (u32_at b (flagged 22)) → SoundPair (resource_in b at).emergency_min (resource_in b at).emergency_max → all (number_at_most 2000000 b (limited 42)) (upto 4) ≡ true → SoundPowers (resource_in b at)
   unfolding all resource_at other_powers_of pairs_ordered
   powers_sound economic regulating emergency others =
       record {
@@ -33,13 +40,13 @@ module _ (b : List ℕ) (at : ℕ) where
 
   -- of its energy steps
   abbrev pub widths_at : ℕ → ℕ
-  widths_at j = u32_at b (at + 74 + j * 8)
+  widths_at j = u32_at b (limited 70 + j * 8)
 
   abbrev pub prices_at : ℕ → ℕ
-  prices_at j = u32_at b (at + 78 + j * 8)
+  prices_at j = u32_at b (limited 74 + j * 8)
 
   -- from what the loop over them has kept, and its last test
-  pub offer_sound : {last sum j : ℕ} → j ≡ 10 → last ≡ rank_before widths_at prices_at j → sum ≡ width_of widths_at j → ((k : ℕ) → k < j → Rising widths_at prices_at k) → (leb last 1600001 && leb sum 2000000) ≡ true → SoundOffer (resource_at b at)
+  pub offer_sound : {last sum j : ℕ} → j ≡ 10 → last ≡ rank_before widths_at prices_at j → sum ≡ width_of widths_at j → ((k : ℕ) → k < j → Rising widths_at prices_at k) → (leb last 1600001 && leb sum 2000000) ≡ true → SoundOffer (resource_in b at)
   unfolding resource_at energy_steps_right
   offer_sound {last} {sum} e l s rising t =
       let low = both (leb last 1600001) (leb sum 2000000) t in

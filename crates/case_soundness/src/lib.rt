@@ -3,6 +3,7 @@
 #![tactic(auto)]
 
 ghost use Rattle.std.specs.Prelude.{◌≡◌, ℕ, ◌+◌, ◌<◌, ◌≤◌, true};
+ghost use Rattle.market.specs.Version.{version_in};
 ghost use Rattle.market.specs.CaseFile.{resource_size, case_of};
 ghost use Rattle.market.specs.Bytes.{u32_at};
 ghost use Rattle.wire.specs.CaseParts.{figures_of};
@@ -10,27 +11,42 @@ ghost use Rattle.case_ranges.specs.Pieces.{ResourcesIn};
 ghost use Rattle.case_soundness.specs.Sound.{SoundPair, SoundPowers, SoundOffer, SoundResource};
 ghost use Rattle.case_soundness.specs.Ranks.{rank_of};
 
-use market::{ENERGY_STEPS, HEAD_SIZE, RESOURCE_SIZE, ZONE_SIZE};
+use market::{ENERGY_STEPS, ZONE_SIZE};
 use wire::ResourceBytes;
 
-// Of the pair of limits at a place of the record: the maximum is in range and the minimum not above it, so that it is in range too.
-fn pair_sound(resource: &ResourceBytes<'_>, place: usize) -> bool
-    requires { place + 8 ≤ resource_size }
+// Of a pair of limits: the maximum is in range and the minimum not above it, so that it is in range too.
+fn pair_sound(low: u32, high: u32) -> bool
+    ensures { result ≡ true → SoundPair low high }
+{
+    (high <= 2000000) & (low <= high)
+}
+
+// Of the pair at a place of the record.
+fn neighbours_sound(resource: &ResourceBytes<'_>, place: usize) -> bool
+    requires { place + 8 ≤ resource_size (version_in resource.now.bytes.now) }
     ensures { result ≡ true → SoundPair (u32_at resource.now.bytes.now (resource.now.at + place)) (u32_at resource.now.bytes.now (resource.now.at + (place + 4))) }
 {
-    let most = resource.u32(place + 4);
-    (most <= 2000000) & (resource.u32(place) <= most)
+    pair_sound(resource.u32(place), resource.u32(place + 4))
+}
+
+// Of the emergency minimum, which not every version has, and the emergency maximum.
+#[tactic(auto, unfolding(market::specs::CaseFile::resource_at))]
+fn emergency_sound(resource: &ResourceBytes<'_>) -> bool
+    ensures { result ≡ true → SoundPair (figures_of resource.now).emergency_min (figures_of resource.now).emergency_max }
+{
+    let most = resource.u32(resource.behind_minimum(26));
+    pair_sound(resource.emergency_min(), most)
 }
 
 #[tactic(auto, using(crate::proofs::Parts::powers_sound))]
 fn powers_sound(resource: &ResourceBytes<'_>) -> bool
     ensures { result ≡ true → SoundPowers (figures_of resource.now) }
 {
-    // economic, regulating, emergency; initial energy, the two off-line limits, self-schedule
-    pair_sound(resource, 10)
-        && pair_sound(resource, 18)
-        && pair_sound(resource, 26)
-        && case_ranges::run_at_most(resource, 46, 4, 2000000)
+    // economic, regulating; initial energy, the two off-line limits, self-schedule
+    neighbours_sound(resource, resource.behind_flags(10))
+        && neighbours_sound(resource, resource.behind_flags(18))
+        && emergency_sound(resource)
+        && case_ranges::run_at_most(resource, resource.behind_minimum(42), 4, 2000000)
 }
 
 // Where a step stands among the prices, moved up so that the lowest is 0, and doubled: one of width 0 and price 0 between the highest
@@ -70,11 +86,11 @@ fn offer_sound(resource: &ResourceBytes<'_>) -> bool
 fn resource_sound(resource: &ResourceBytes<'_>, zones: usize) -> bool
     ensures { result ≡ true → SoundResource zones (figures_of resource.now) }
 {
-    // ramps stand at 34, reserve prices at 62
+    // ramps stand at 30 behind the emergency minimum, reserve prices at 58
     case_ranges::state_in_range(resource, zones)
         && powers_sound(resource)
-        && case_ranges::run_at_most(resource, 34, 3, 400000)
-        && case_ranges::run_at_most(resource, 62, 3, 400000)
+        && case_ranges::run_at_most(resource, resource.behind_minimum(30), 3, 400000)
+        && case_ranges::run_at_most(resource, resource.behind_minimum(58), 3, 400000)
         && offer_sound(resource)
 }
 
@@ -85,6 +101,9 @@ pub fn resources_sound(b: &[u8], resources: usize, zones: usize) -> bool
     requires { ResourcesIn b.now resources zones }
     ensures { result ≡ true → (i : ℕ) → i < resources → SoundResource zones ((case_of b.now).resource i) }
 {
-    let first = HEAD_SIZE + zones * ZONE_SIZE;
-    (0..resources).all(|i| resource_sound(&ResourceBytes::new(b, first + i * RESOURCE_SIZE), zones))
+    let version = wire::version_at(b);
+    let first = version.head_size() + zones * ZONE_SIZE;
+    (0..resources).all(|i| {
+        resource_sound(&ResourceBytes::new(b, first + i * version.resource_size()), zones)
+    })
 }

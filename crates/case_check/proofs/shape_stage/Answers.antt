@@ -21,5 +21,5 @@ returns-clause-shaped c =
     let b = c.args.b.now in
     let long = sym c.length_right.ensures ∙ c.if-not-length_right.false in
     let counts = ap (λ (n : Counts). counts_right n.resources n.zones n.flowgates) (sym c.counts_at-n.ensures) ∙ sym c.counts_right.ensures ∙ c.if-not-counts_right.false in
-    let size = ap (λ (n : Counts). eqb (length b) (case_size n.resources n.zones n.flowgates)) (sym c.counts_at-n.ensures) ∙ sym c.size_right.ensures ∙ c.if-not-size_right.false in
+    let size = ap (λ (n : Counts). eqb (length b) (case_size n.version n.resources n.zones n.flowgates)) (sym c.counts_at-n.ensures) ∙ sym c.size_right.ensures ∙ c.if-not-size_right.false in
     subst (CaseBytesOf b) (sym c.counts_at-n.ensures) (shape_bytes b long counts size)
