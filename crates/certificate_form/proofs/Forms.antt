@@ -1,11 +1,13 @@
 -- Grounds 8 to 11 by the tests of the code, and what a file past them is.
-use mathlib.Core.Path.{◌≡◌, ap}
+use mathlib.Core.Path.{◌≡◌, ap, ◌∙◌}
 use mathlib.Core.Bool.{true}
 use mathlib.Core.List.{List, [], ◌∷◌}
 use Prim.Native.Nat.{ℕ, ◌+◌, ◌≤◌}
 use lib.Dec.{T, leb, eqb, leb→le, eqb→eq}
 use lib.ListN.{length}
 use Rattle.arith.proofs.AllTests.{and_split, and-each}
+use Rattle.market.specs.declared.version.Version.{Version}
+use Rattle.market.specs.Version.{version_in}
 use Rattle.market.specs.declared.Counts.{Counts}
 use Rattle.market.specs.Bytes.{u8_at, u32_at}
 use Rattle.market.specs.Case.{Case}
@@ -14,6 +16,7 @@ use Rattle.market.specs.Certificate.{least_certificate_size, certificate_of, cer
 use Rattle.market.specs.Records.{counts_in}
 use Rattle.market.specs.Refusals.{AllClear}
 use Rattle.market.specs.Outcome.{same_counts, form_grounds}
+use Rattle.market.proofs.Versions.{one_version}
 use Rattle.market.proofs.LargestCase.{CountRanges}
 use Rattle.market.proofs.Passed.{form_passed}
 use Rattle.certificate_records.specs.CertificateBytes.{CertificateBytes}
@@ -31,7 +34,7 @@ module _ (q : List ℕ) {n : Counts} (c : Case) (e : n ≡ counts_in c) where
   unfolding counts_are same_counts certificate_as
   counts_are_lem = ap (λ (m : Counts). counts_are q m) e
 
-  pub size_is_lem : size_is q n ≡ eqb (length q) (certificate_size c.resources c.zones c.flowgates)
+  pub size_is_lem : size_is q n ≡ eqb (length q) (certificate_size c.version c.resources c.zones c.flowgates)
   unfolding size_is
   size_is_lem = ap (λ (m : Counts). size_is q m) e
 
@@ -46,5 +49,7 @@ form_bytes q c h clear =
       zones_are = eqb→eq (u8_at q 6) c.zones counts.1.0;
       flowgates_are = eqb→eq (u8_at q 7) c.flowgates counts.1.1.0;
       counts = h;
-      sized = eqb→eq (length q) (certificate_size c.resources c.zones c.flowgates) passed.size_right;
+      sized =
+          eqb→eq (length q) (certificate_size c.version c.resources c.zones c.flowgates) passed.size_right
+          ∙ ap (λ (version : Version). certificate_size version c.resources c.zones c.flowgates) (one_version c.version (version_in q));
     }

@@ -2,15 +2,18 @@
 use mathlib.Core.Path.{◌≡◌, refl, sym, ◌∙◌, subst}
 use mathlib.Core.Bool.{Bool, true, ◌&&◌}
 use mathlib.Core.List.{List, ◌++◌, map}
-use Prim.Native.Nat.{ℕ, ◌+◌}
+use lib.ListN.{length}
+use Prim.Native.Nat.{ℕ, ◌+◌, ◌*◌}
 use native.Mathlib.Omega.{arith}
 use lib.IntN.{pos, neg_ℤ}
 use Rattle.arith.specs.Sums.{upto, all}
 use Rattle.arith.proofs.AllTests.{all_append, all_map, all-across}
+use Rattle.market.specs.Version.{version_in}
 use Rattle.market.specs.declared.Counts.{Counts}
 use Rattle.market.specs.Bytes.{u32_at, i32_at, within, within_ℤ}
-use Rattle.market.specs.Case.{Case, curves}
-use Rattle.market.specs.Certificate.{zone_prices_place, amounts_place, price_at, certificate_of, certificate_as}
+use Rattle.market.specs.Case.{Case, zoned_curves, curves}
+use Rattle.market.specs.UpperBounds.{services}
+use Rattle.market.specs.Certificate.{balance_price_place, market_prices_place, zone_prices_place, amounts_place, price_at, certificate_of, certificate_as}
 use Rattle.market.specs.Records.{counts_in}
 use Rattle.market.specs.Rows.{Row, balance_row, zone_row, flowgate_row, limit_row, limits, market_rows, zone_rows, flowgate_rows, limit_rows, rows}
 use Rattle.market.specs.Outcome.{price_right}
@@ -25,60 +28,61 @@ module _ (q : List ℕ) where
   abbrev right : Row → Bool
   right = price_right (certificate_of q)
 
-  balance_run : right balance_row ≡ within_ℤ (neg_ℤ (pos 400000000)) (pos 400000000) (i32_at q 24)
+  balance_run : right balance_row ≡ within_ℤ (neg_ℤ (pos 400000000)) (pos 400000000) (i32_at q (balance_price_place (version_in q)))
   unfolding certificate_as price_at
   balance_run = refl
 
-  market_run : all right market_rows ≡ all (number_at_most 400000000 q 28) (upto 4)
+  market_run : (c : Case) → all right (market_rows c) ≡ all (number_at_most 400000000 q (market_prices_place (version_in q))) (upto (length (curves c.version)))
   unfolding all upto certificate_as price_at
-  market_run = refl
+  market_run c = refl
 
-  zone_run : (z : ℕ) → all right (map (zone_row z) curves) ≡ zone_priced q z
+  zone_run : (z : ℕ) → all right (map (zone_row z) zoned_curves) ≡ zone_priced q z
   unfolding all upto certificate_as price_at
   zone_run z = refl
 
   module _ (r z f : ℕ) (h : CertificateBytes q r z f) where
-    flowgate_run : (g : ℕ) → right (flowgate_row g) ≡ number_at_most 400000 q (zone_prices_place z) g
+    flowgate_run : (g : ℕ) → right (flowgate_row g) ≡ number_at_most 400000 q (zone_prices_place (version_in q) z) g
     unfolding certificate_as price_at
     flowgate_run g = rw h.zones_are
 
-    limit_run : (i : ℕ) → all right (map (limit_row i) limits) ≡ limits_priced q z f i
+    limit_run : (i : ℕ) → all right (map (limit_row i) (limits (version_in q))) ≡ limits_priced q z f i
     unfolding all upto certificate_as price_at
     limit_run i =
-        let p = amounts_place z f i in
-        let e₀ : p + 20 ≡ p + 20 + 0 = omega arith in
-        let e₁ : p + 24 ≡ p + 20 + 4 = omega arith in
-        let e₂ : p + 28 ≡ p + 20 + 8 = omega arith in
-        let e₃ : p + 32 ≡ p + 20 + 12 = omega arith in
-        let e₄ : p + 36 ≡ p + 20 + 16 = omega arith in
+        let p = amounts_place (version_in q) z f i in
+        let s = length (services (version_in q)) * 4 in
+        let e₀ : p + s ≡ p + s + 0 = omega arith in
+        let e₁ : p + (s + 4) ≡ p + s + 4 = omega arith in
+        let e₂ : p + (s + 8) ≡ p + s + 8 = omega arith in
+        let e₃ : p + (s + 12) ≡ p + s + 12 = omega arith in
+        let e₄ : p + (s + 16) ≡ p + s + 16 = omega arith in
         rw (h.zones_are, h.flowgates_are) (λ i. small q (e₀ i) && (small q (e₁ i) && (small q (e₂ i) && (small q (e₃ i) && (small q (e₄ i) && true)))))
 
 -- the families of a case's rows, one after the other
-by_families : (t : Row → Bool) (c : Case) → all t (rows c) ≡ (t balance_row && (all t market_rows && (all t (zone_rows c) && (all t (flowgate_rows c) && all t (limit_rows c)))))
+by_families : (t : Row → Bool) (c : Case) → all t (rows c) ≡ (t balance_row && (all t (market_rows c) && (all t (zone_rows c) && (all t (flowgate_rows c) && all t (limit_rows c)))))
 unfolding rows all
 by_families t c =
-    rw (all_append t market_rows (zone_rows c ++ (flowgate_rows c ++ limit_rows c)), all_append t (zone_rows c) (flowgate_rows c ++ limit_rows c), all_append t (flowgate_rows c) (limit_rows c))
+    rw (all_append t (market_rows c) (zone_rows c ++ (flowgate_rows c ++ limit_rows c)), all_append t (zone_rows c) (flowgate_rows c ++ limit_rows c), all_append t (flowgate_rows c) (limit_rows c))
 
 -- as the code goes through them
 abbrev pub prices_at : List ℕ → Counts → Bool
 prices_at q n =
-    within_ℤ (neg_ℤ (pos 400000000)) (pos 400000000) (i32_at q 24)
-    && (all (number_at_most 400000000 q 28) (upto 4)
+    within_ℤ (neg_ℤ (pos 400000000)) (pos 400000000) (i32_at q (balance_price_place (version_in q)))
+    && (all (number_at_most 400000000 q (market_prices_place (version_in q))) (upto (length (curves n.version)))
     && (all (zone_priced q) (upto n.zones)
-    && (all (number_at_most 400000 q (zone_prices_place n.zones)) (upto n.flowgates) && all (limits_priced q n.zones n.flowgates) (upto n.resources))))
+    && (all (number_at_most 400000 q (zone_prices_place (version_in q) n.zones)) (upto n.flowgates) && all (limits_priced q n.zones n.flowgates) (upto n.resources))))
 
 module _ (q : List ℕ) (c : Case) (h : CertificateBytes q c.resources c.zones c.flowgates) where
   zone_family : all (right q) (zone_rows c) ≡ all (zone_priced q) (upto c.zones)
-  zone_family = all-across (right q) (λ z. map (zone_row z) curves) (upto c.zones) ∙ (λ i. all (λ z. zone_run q z i) (upto c.zones))
+  zone_family = all-across (right q) (λ z. map (zone_row z) zoned_curves) (upto c.zones) ∙ (λ i. all (λ z. zone_run q z i) (upto c.zones))
 
-  flowgate_family : all (right q) (flowgate_rows c) ≡ all (number_at_most 400000 q (zone_prices_place c.zones)) (upto c.flowgates)
+  flowgate_family : all (right q) (flowgate_rows c) ≡ all (number_at_most 400000 q (zone_prices_place (version_in q) c.zones)) (upto c.flowgates)
   flowgate_family = all_map (right q) flowgate_row (upto c.flowgates) ∙ (λ i. all (λ g. flowgate_run q c.resources c.zones c.flowgates h g i) (upto c.flowgates))
 
   limit_family : all (right q) (limit_rows c) ≡ all (limits_priced q c.zones c.flowgates) (upto c.resources)
-  limit_family = all-across (right q) (λ r. map (limit_row r) limits) (upto c.resources) ∙ (λ i. all (λ r. limit_run q c.resources c.zones c.flowgates h r i) (upto c.resources))
+  limit_family = all-across (right q) (λ r. map (limit_row r) (limits c.version)) (upto c.resources) ∙ (λ i. all (λ r. limit_run q c.resources c.zones c.flowgates h r i) (upto c.resources))
 
   by_place : all (right q) (rows c) ≡ prices_at q (counts_in c)
-  by_place = by_families (right q) c ∙ (λ i. balance_run q i && (market_run q i && (zone_family i && (flowgate_family i && limit_family i))))
+  by_place = by_families (right q) c ∙ (λ i. balance_run q i && (market_run q c i && (zone_family i && (flowgate_family i && limit_family i))))
 
 pub prices_by_place : {q : List ℕ} {n : Counts} → CertificateBytes q n.resources n.zones n.flowgates → (c : Case) → n ≡ counts_in c → all (price_right (certificate_of q)) (rows c) ≡ prices_at q n
 prices_by_place {q} {n} h c e = subst (λ (m : Counts). CertificateBytes q m.resources m.zones m.flowgates → all (right q) (rows c) ≡ prices_at q m) (sym e) (by_place q c) h

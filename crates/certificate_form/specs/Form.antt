@@ -10,4 +10,4 @@ counts_are q n = eqb (u8_at q 5) n.resources && eqb (u8_at q 6) n.zones && eqb (
 
 -- 11
 unfoldable pub size_is : List ℕ → Counts → Bool
-size_is q n = eqb (length q) (certificate_size n.resources n.zones n.flowgates)
+size_is q n = eqb (length q) (certificate_size n.version n.resources n.zones n.flowgates)

@@ -4,6 +4,7 @@
 
 ghost use Rattle.std.specs.Prelude.{◌≡◌, ◌+◌, ◌*◌, ◌<◌};
 ghost use Rattle.arith.specs.Sums.{upto, all};
+ghost use Rattle.market.specs.Version.{version_in};
 ghost use Rattle.market.specs.Case.{Case};
 ghost use Rattle.market.specs.CaseCheck.{CountsWithin};
 ghost use Rattle.market.specs.Certificate.{certificate_head_size, zone_prices_size, certificate_of};
@@ -18,12 +19,12 @@ ghost use Rattle.certificate_form.specs.Form.{counts_are, size_is};
 ghost use Rattle.certificate_form.specs.PricePlaces.{zone_priced, limits_priced};
 
 use certificate_records::SizedCertificate;
-use market::{CERTIFICATE_HEAD_SIZE, Counts, Refusal, ZONE_PRICES_SIZE};
+use market::{Counts, LEAST_CERTIFICATE_SIZE, Refusal, ZONE_PRICES_SIZE};
 
 // ---- 8 to 11: the file's form
 #[tactic(auto, unfolding(crate::specs::Form::counts_are, market::specs::CaseFile::case_as))]
 fn same_counts(q: &[u8], n: Counts) -> bool
-    requires { Within q.now 0 certificate_head_size }
+    requires { Within q.now 0 (certificate_head_size (version_in q.now)) }
     ensures { result ≡ counts_are q.now n }
 {
     case_check::counts_at(q) == n
@@ -43,7 +44,7 @@ pub fn form(q: &[u8], n: Counts) -> Result<Counts, Refusal>
     requires { CountsWithin n.resources n.zones n.flowgates }
     ensures { (c : Case) → n ≡ counts_in c → result ≡ answered n (first_of (form_grounds c q.now (certificate_of q.now))) }
 {
-    if !case_check::length_right(q, CERTIFICATE_HEAD_SIZE) {
+    if !case_check::length_right(q, LEAST_CERTIFICATE_SIZE) {
         return Err(Refusal::CertificateLength);
     }
     if !case_check::version_right(q) {
@@ -61,11 +62,12 @@ pub fn form(q: &[u8], n: Counts) -> Result<Counts, Refusal>
 // ---- 12: every price within its range
 // Zone by zone, as in `case_ranges::zones_in_range`.
 fn zones_priced(q: &[u8], zones: usize) -> bool
-    requires { Within q.now certificate_head_size (zones * zone_prices_size) }
+    requires { Within q.now (certificate_head_size (version_in q.now)) (zones * zone_prices_size) }
     ensures { result ≡ all (zone_priced q.now) (upto zones) }
 {
+    let first = wire::version_at(q).certificate_head_size();
     (0..zones).all(|zone| {
-        let at = CERTIFICATE_HEAD_SIZE + zone * ZONE_PRICES_SIZE;
+        let at = first + zone * ZONE_PRICES_SIZE;
         case_ranges::all_at_most(q, at, 4, 400000000)
     })
 }
@@ -74,8 +76,10 @@ fn limits_priced(certificate: &SizedCertificate<'_>) -> bool
     ensures { result ≡ all (limits_priced certificate.now.bytes.now certificate.now.zones certificate.now.flowgates) (upto certificate.now.resources) }
 {
     (0..certificate.resources).all(|i| {
-        let at = market::amounts_place(certificate.zones, certificate.flowgates, i);
-        case_ranges::all_at_most(certificate.bytes, at + 20, 5, 400000000)
+        let version = certificate.version();
+        let place = market::amounts_place(version, certificate.zones, certificate.flowgates, i);
+        let at = place + 4 * version.services();
+        case_ranges::all_at_most(certificate.bytes, at, version.resource_rows(), 400000000)
     })
 }
 
@@ -84,10 +88,12 @@ pub fn prices_right(certificate: &SizedCertificate<'_>) -> bool
     ensures { (c : Case) → counts_of certificate.now ≡ counts_in c → result ≡ all (price_right (certificate_in certificate.now)) (rows c) }
 {
     let q = certificate.bytes;
-    let flowgate_prices = CERTIFICATE_HEAD_SIZE + certificate.zones * ZONE_PRICES_SIZE;
+    let version = certificate.version();
+    let market_prices = version.market_prices_place();
+    let flowgate_prices = version.certificate_head_size() + certificate.zones * ZONE_PRICES_SIZE;
     // row 1, then the market's, the zones', the flowgates' and the resources' rows
-    case_ranges::word_either_way(q, 24, 400000000)
-        && case_ranges::all_at_most(q, 28, 4, 400000000)
+    case_ranges::word_either_way(q, version.balance_price_place(), 400000000)
+        && case_ranges::all_at_most(q, market_prices, version.curves(), 400000000)
         && zones_priced(q, certificate.zones)
         && case_ranges::all_at_most(q, flowgate_prices, certificate.flowgates, 400000)
         && limits_priced(certificate)
