@@ -37,7 +37,7 @@ file_long v fs vs e = omega (arith, bytes_long fs vs e)
 module _ (file : File) (vs : List ℤ) (version : Version) (r z f : ℕ) (h : Listed file vs version r z f) where
   file_is : file_of written_version (fields_of file version r z f) vs ≡ file_of_list file vs
   unfolding file_for fields_for
-  file_is = rw (h.written, h.resources, h.zones, h.flowgates)
+  file_is = rw (h.version_is, h.resources, h.zones, h.flowgates)
 
   file_size : length (file_of_list file vs) ≡ size_of file version r z f
   file_size = ap length (sym file_is) ∙ file_long written_version (fields_of file version r z f) vs (fit_length (fields_of file version r z f) vs h.fit)

@@ -60,7 +60,7 @@ unfolding fields_for
 listed file vs h =
     let passed = tests-passed (fields_of file) written_version vs (none_holds (list_grounds (fields_of file) written_version vs) h) in
     record {
-      written = refl;
+      version_is = refl;
       resources = refl;
       zones = refl;
       flowgates = refl;

@@ -16,7 +16,7 @@ pub record Fits (field : Field) (v : ℤ) : Type 0 where
 
 -- the list vs of the numbers of a file that is written, for r resources, z zones and f flowgates
 pub record Listed (file : File) (vs : List ℤ) (version : Version) (r z f : ℕ) : Type 0 where
-  pub written : version ≡ version_of written_version
+  pub version_is : version ≡ version_of written_version
   pub resources : r ≡ count_in vs 0
   pub zones : z ≡ count_in vs 1
   pub flowgates : f ≡ count_in vs 2
