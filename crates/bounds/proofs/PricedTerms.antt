@@ -11,6 +11,9 @@ use Rattle.arith.specs.Sums.{sum_of, upto, across}
 use Rattle.arith.proofs.Lists.{each-upto}
 use Rattle.arith.proofs.Linear.{sorted, count}
 use Rattle.arith.proofs.Sums.{sum-each-ext, append_sums, sum-add, sum-map, sum-across}
+use Rattle.market.proofs.Versions.{all_four_curves}
+use Rattle.market.specs.declared.version.Version.{Version}
+use Rattle.market.specs.declared.version.Version.TheVariants.{First as first}
 use Rattle.market.specs.Case.{Case, curves, energy_steps, curve_steps}
 use Rattle.market.specs.declared.Curve.{Curve}
 use Rattle.market.specs.declared.Curve.TheVariants.{Operating as operating, RegulatingPlusSpinning as regulating_plus_spinning, Regulating as regulating, ShortTerm as short_term}
@@ -35,16 +38,16 @@ use Rattle.net_prices.specs.NetPrices.{nets_of}
 use Rattle.net_prices.proofs.Known.{step_is}
 use Rattle.units.specs.Sized.{Sized}
 use Rattle.bounds.specs.Terms.{row_term, priced_term, zone_terms, flowgate_term, limit_terms, least_terms, resource_terms, step_least, reserves_least, curve_step_least}
-use Rattle.bounds.proofs.RowTerms.{over_curves, rows_are}
+use Rattle.bounds.proofs.RowTerms.{over_market, rows_are}
 
 chosen : (t : Bool) (w : ℕ) → (cond t (power w) (power 0)).0 ≡ pos (cond t w 0)
 chosen true w = refl
 chosen false w = refl
 
 -- ---- what the records make: a resource
-over_reserves : (f : Service → ℤ) → f regulation +ℤ (f contingency +ℤ (f on_line_short_term +ℤ f off_line_short_term)) ≡ sum_of f reserve_services
+over_reserves : (version : Version) (f : Service → ℤ) → f regulation +ℤ (f contingency +ℤ (f on_line_short_term +ℤ f off_line_short_term)) ≡ sum_of f (reserve_services version)
 unfolding sum_of
-over_reserves f = rw (+ℤ_idr (f off_line_short_term))
+over_reserves first f = rw (+ℤ_idr (f off_line_short_term))
 
 module _ (c : Case) (y : Prices) (h : CaseRanges c) (p : PriceRanges c y) (i : ℕ) (n : i < c.resources) where
   pub step_least_is : (j : ℕ) → j < energy_steps → step_least (nets_of c y i) (on_line (c.resource i)) (offer_step (offer_steps_of (c.resource i)) j) ≡ lowest c y (priced_energy_step i j)
@@ -54,16 +57,16 @@ module _ (c : Case) (y : Prices) (h : CaseRanges c) (p : PriceRanges c y) (i : �
   steps_least_are : sum_of (λ j. step_least (nets_of c y i) (on_line (c.resource i)) (offer_step (offer_steps_of (c.resource i)) j)) (upto energy_steps) ≡ sum_of (λ j. lowest c y (priced_energy_step i j)) (upto energy_steps)
   steps_least_are = sum-each-ext _ _ (upto energy_steps) (each-upto _ energy_steps step_least_is)
 
-  reserves_least_are : reserves_least (nets_of c y i) (reserve_bounds_of c (c.resource i)) ≡ sum_of (lowest c y) (map (priced_whole i) reserve_services)
+  reserves_least_are : reserves_least (nets_of c y i) (reserve_bounds_of c (c.resource i)) ≡ sum_of (lowest c y) (map (priced_whole i) (reserve_services c.version))
   unfolding reserves_least nets_of reserve_bounds_of lowest priced_upper_bound
-  reserves_least_are = over_reserves (λ s. lowest c y (priced_whole i s)) ∙ sym (sum-map (lowest c y) (priced_whole i) reserve_services)
+  reserves_least_are = over_reserves c.version (λ s. lowest c y (priced_whole i s)) ∙ sym (sum-map (lowest c y) (priced_whole i) (reserve_services c.version))
 
   pub resource_least_is : sum_of (λ j. step_least (nets_of c y i) (on_line (c.resource i)) (offer_step (offer_steps_of (c.resource i)) j)) (upto energy_steps)
       +ℤ reserves_least (nets_of c y i) (reserve_bounds_of c (c.resource i))
-      ≡ sum_of (lowest c y) (priced_of i)
+      ≡ sum_of (lowest c y) (priced_of c.version i)
   resource_least_is =
       sym
-      (append_sums (lowest c y) (map (priced_energy_step i) (upto energy_steps)) (map (priced_whole i) reserve_services)
+      (append_sums (lowest c y) (map (priced_energy_step i) (upto energy_steps)) (map (priced_whole i) (reserve_services c.version))
       (sum-map (lowest c y) (priced_energy_step i) (upto energy_steps) ∙ sym steps_least_are)
       (sym reserves_least_are))
 
@@ -71,7 +74,7 @@ module _ (c : Case) (y : Prices) (h : CaseRanges c) (p : PriceRanges c y) (i : �
 module _ (c : Case) (y : Prices) where
   pub curve_step_least_is : (k : Curve) (j : ℕ) → j < curve_steps → curve_step_least (millicents (y (market_row k))) (curve_step (curve_steps_of c k) j) ≡ lowest c y (priced_curve_step k j)
   unfolding curve_step_least curve_step_of lowest priced_upper_bound
-  curve_step_least_is k j l = rw (curve_step_is c k j l, (net_prices_in_words c y).curve_step k j)
+  curve_step_least_is k j l = rw (curve_step_is c k j l, (net_prices_in_words c y).curve_step k (all_four_curves c.version k) j)
 
   curve_least_is : (k : Curve) → sum_of (λ j. curve_step_least (millicents (y (market_row k))) (curve_step (curve_steps_of c k) j)) (upto curve_steps) ≡ sum_of (lowest c y) (curve_priced k)
   curve_least_is k = sum-each-ext _ _ (upto curve_steps) (each-upto _ curve_steps (curve_step_least_is k)) ∙ sym (sum-map (lowest c y) (priced_curve_step k) (upto curve_steps))
@@ -83,25 +86,25 @@ module _ (c : Case) (y : Prices) where
 
   pub curves_are : sum_of (lowest c y) (curve_priced operating)
       +ℤ (sum_of (lowest c y) (curve_priced regulating_plus_spinning) +ℤ (sum_of (lowest c y) (curve_priced regulating) +ℤ sum_of (lowest c y) (curve_priced short_term)))
-      ≡ sum_of (lowest c y) (across curve_priced curves)
-  curves_are = over_curves (λ k. sum_of (lowest c y) (curve_priced k)) ∙ sym (sum-across (lowest c y) curve_priced curves)
+      ≡ sum_of (lowest c y) (across curve_priced (curves c.version))
+  curves_are = over_market c.version (λ k. sum_of (lowest c y) (curve_priced k)) ∙ sym (sum-across (lowest c y) curve_priced (curves c.version))
 
-  all_priced : sum_of (λ i. sum_of (lowest c y) (priced_of i)) (upto c.resources) +ℤ sum_of (lowest c y) (across curve_priced curves) ≡ sum_of (lowest c y) (priced c)
+  all_priced : sum_of (λ i. sum_of (lowest c y) (priced_of c.version i)) (upto c.resources) +ℤ sum_of (lowest c y) (across curve_priced (curves c.version)) ≡ sum_of (lowest c y) (priced c)
   unfolding priced
-  all_priced = sym (append_sums (lowest c y) (across priced_of (upto c.resources)) (across curve_priced curves) (sum-across (lowest c y) priced_of (upto c.resources)) refl)
+  all_priced = sym (append_sums (lowest c y) (across (priced_of c.version) (upto c.resources)) (across curve_priced (curves c.version)) (sum-across (lowest c y) (priced_of c.version) (upto c.resources)) refl)
 
 -- by the code's count
 priced_are : {b q : List ℕ} {r z f : ℕ} → PricesStand b q r z f →
-    sum_of (least_terms b q) (upto r) +ℤ sum_of (priced_term b q) (across curve_priced curves) ≡ sum_of (priced_term b q) (priced (case_of b))
+    sum_of (least_terms b q) (upto r) +ℤ sum_of (priced_term b q) (across curve_priced (curves (case_of b).version)) ≡ sum_of (priced_term b q) (priced (case_of b))
 priced_are {b} {q} s = rw (resources_is s.case_bytes) (all_priced (case_of b) (certificate_of q).price)
 
 -- ---- the bound: what no resource has, then resource by resource, then the curves
 pub bound_is : {b q : List ℕ} {r z f : ℕ} → PricesStand b q r z f →
-    row_term b q balance_row +ℤ (sum_of (zone_terms b q) (upto z) +ℤ sum_of (flowgate_term b q) (upto f)) +ℤ (sum_of (resource_terms b q) (upto r) +ℤ sum_of (priced_term b q) (across curve_priced curves))
+    row_term b q balance_row +ℤ (sum_of (zone_terms b q) (upto z) +ℤ sum_of (flowgate_term b q) (upto f)) +ℤ (sum_of (resource_terms b q) (upto r) +ℤ sum_of (priced_term b q) (across curve_priced (curves (case_of b).version)))
     ≡ sum_of (row_term b q) (rows (case_of b)) +ℤ sum_of (priced_term b q) (priced (case_of b))
 bound_is {b} {q} {r} {z} {f} s =
     rw (sum-add (limit_terms b q) (least_terms b q) (upto r), ← rows_are s, ← priced_are s)
-    (ring (row_term b q balance_row) (sum_of (zone_terms b q) (upto z)) (sum_of (flowgate_term b q) (upto f)) (sum_of (limit_terms b q) (upto r)) (sum_of (least_terms b q) (upto r)) (sum_of (priced_term b q) (across curve_priced curves)))
+    (ring (row_term b q balance_row) (sum_of (zone_terms b q) (upto z)) (sum_of (flowgate_term b q) (upto f)) (sum_of (limit_terms b q) (upto r)) (sum_of (least_terms b q) (upto r)) (sum_of (priced_term b q) (across curve_priced (curves (case_of b).version))))
   where
     ring : (a z f l p c : ℤ) → a +ℤ (z +ℤ f) +ℤ (l +ℤ p +ℤ c) ≡ a +ℤ (z +ℤ (f +ℤ l)) +ℤ (p +ℤ c)
     ring a z f l p c = simp sorted (simp count (omega arith))

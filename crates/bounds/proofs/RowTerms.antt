@@ -9,7 +9,8 @@ use Rattle.arith.specs.Sums.{sum_of, upto}
 use Rattle.arith.proofs.Linear.{sorted, count}
 use Rattle.arith.proofs.Magnitudes.{abs-sub, abs-mul}
 use Rattle.arith.proofs.Sums.{sum-ext, sum-zero}
-use Rattle.market.specs.Case.{Case, curves}
+use Rattle.market.specs.declared.version.Version.{Version}
+use Rattle.market.specs.Case.{Case, curves, zoned_curves}
 use Rattle.market.specs.declared.Curve.{Curve}
 use Rattle.market.specs.declared.Curve.TheVariants.{Operating as operating, RegulatingPlusSpinning as regulating_plus_spinning, Regulating as regulating, ShortTerm as short_term}
 use Rattle.market.specs.CaseFile.{case_of}
@@ -28,9 +29,13 @@ use Rattle.units.specs.Room.{ProductRoom}
 use Rattle.bounds.specs.Sizes.{most_flowgate_term, RowRoom, SmallRequirements}
 use Rattle.bounds.specs.Terms.{row_term, zone_terms, flowgate_term, limit_terms, zone_value, limit_value}
 
-pub over_curves : (f : Curve → ℤ) → f operating +ℤ (f regulating_plus_spinning +ℤ (f regulating +ℤ f short_term)) ≡ sum_of f curves
+over_curves : (f : Curve → ℤ) → f operating +ℤ (f regulating_plus_spinning +ℤ (f regulating +ℤ f short_term)) ≡ sum_of f zoned_curves
 unfolding sum_of
 over_curves f = rw (+ℤ_idr (f short_term))
+
+-- and over the market's
+pub over_market : (version : Version) (f : Curve → ℤ) → f operating +ℤ (f regulating_plus_spinning +ℤ (f regulating +ℤ f short_term)) ≡ sum_of f (curves version)
+over_market version = over_curves
 
 -- ---- sizes
 module _ (c : Case) (h : CaseRanges c) where
@@ -38,15 +43,15 @@ module _ (c : Case) (h : CaseRanges c) where
   unfolding zone_requirements_of
   requirements_small z n =
       record {
-        operating = h.zone_requirement z operating n;
-        regulating_plus_spinning = h.zone_requirement z regulating_plus_spinning n;
-        regulating = h.zone_requirement z regulating n;
-        short_term = h.zone_requirement z short_term n;
+        operating = h.zone_requirement z operating n tt;
+        regulating_plus_spinning = h.zone_requirement z regulating_plus_spinning n tt;
+        regulating = h.zone_requirement z regulating n tt;
+        short_term = h.zone_requirement z short_term n tt;
       }
 
 -- ---- what the records make
 module _ (c : Case) (y : Prices) where
-  pub zone_value_is : (z : ℕ) → zone_value (reserve_prices_of y (zone_row z)) (zone_requirements_of c z) ≡ sum_of (λ k. y (zone_row z k) *ℤ right_side c (zone_row z k)) curves
+  pub zone_value_is : (z : ℕ) → zone_value (reserve_prices_of y (zone_row z)) (zone_requirements_of c z) ≡ sum_of (λ k. y (zone_row z k) *ℤ right_side c (zone_row z k)) zoned_curves
   unfolding zone_value reserve_prices_of zone_requirements_of right_side
   zone_value_is z = over_curves (λ k. y (zone_row z k) *ℤ right_side c (zone_row z k))
 
@@ -58,24 +63,24 @@ module _ (c : Case) (y : Prices) where
       ring : (p l : ℤ) → p *ℤ (pos 0 -ℤ pos 1000 *ℤ l) ≡ p *ℤ neg_ℤ (pos 1000 *ℤ l)
       ring p l = simp sorted (simp count (omega arith))
 
-  pub limit_value_is : (i : ℕ) → limit_value (limit_prices_of y i) (limits_of (c.resource i)) ≡ sum_of (λ l. y (limit_row i l) *ℤ right_side c (limit_row i l)) limits
+  pub limit_value_is : (i : ℕ) → limit_value (limit_prices_of y i) (limits_of (c.resource i)) ≡ sum_of (λ l. y (limit_row i l) *ℤ right_side c (limit_row i l)) (limits c.version)
   unfolding limit_value limit_prices_of limits_of right_side sum_of
   limit_value_is i =
       ring (y (limit_row i max_with_reserve)) (y (limit_row i max_with_short_term)) (y (limit_row i minimum)) (y (limit_row i high)) (y (limit_row i low))
-      (pos (max_of (c.resource i))) (pos (min_of (c.resource i))) (pos (hi_of (c.resource i))) (pos (lo_of (c.resource i)))
+      (pos (max_of (c.resource i))) (min_of (c.resource i)) (hi_of (c.resource i)) (lo_of (c.resource i))
     where
       ring : (m s n h l M N H L : ℤ) → n *ℤ N +ℤ l *ℤ L -ℤ (m *ℤ M +ℤ s *ℤ M +ℤ h *ℤ H) ≡ m *ℤ neg_ℤ M +ℤ (s *ℤ neg_ℤ M +ℤ (n *ℤ N +ℤ (h *ℤ neg_ℤ H +ℤ (l *ℤ L +ℤ pos 0))))
       ring m s n h l M N H L = simp sorted (simp count (omega arith))
 
   -- market rows add nothing
-  market_terms : sum_of (λ k. y (market_row k) *ℤ right_side c (market_row k)) curves ≡ pos 0
+  market_terms : sum_of (λ k. y (market_row k) *ℤ right_side c (market_row k)) (curves c.version) ≡ pos 0
   unfolding right_side
-  market_terms = sum-ext (λ k. y (market_row k) *ℤ pos 0) (λ k. pos 0) (λ k. *ℤ-zero (y (market_row k))) curves ∙ sum-zero curves
+  market_terms = sum-ext (λ k. y (market_row k) *ℤ pos 0) (λ k. pos 0) (λ k. *ℤ-zero (y (market_row k))) (curves c.version) ∙ sum-zero (curves c.version)
 
   without_market : y balance_row *ℤ right_side c balance_row
-      +ℤ (sum_of (λ z. sum_of (λ k. y (zone_row z k) *ℤ right_side c (zone_row z k)) curves) (upto c.zones)
+      +ℤ (sum_of (λ z. sum_of (λ k. y (zone_row z k) *ℤ right_side c (zone_row z k)) zoned_curves) (upto c.zones)
       +ℤ (sum_of (λ f. y (flowgate_row f) *ℤ right_side c (flowgate_row f)) (upto c.flowgates)
-      +ℤ sum_of (λ i. sum_of (λ l. y (limit_row i l) *ℤ right_side c (limit_row i l)) limits) (upto c.resources)))
+      +ℤ sum_of (λ i. sum_of (λ l. y (limit_row i l) *ℤ right_side c (limit_row i l)) (limits c.version)) (upto c.resources)))
       ≡ sum_of (λ r. y r *ℤ right_side c r) (rows c)
   without_market = rw (rows_sum c (λ r. y r *ℤ right_side c r), market_terms, +ℤ_idl)
 

@@ -6,7 +6,7 @@ use Rattle.market.specs.declared.Kw.{Kw}
 use Rattle.market.specs.declared.Millicents.{Millicents}
 use Rattle.market.specs.declared.Step.{Step}
 use Rattle.market.specs.declared.LimitPrices.{LimitPrices}
-use Rattle.market.specs.Case.{curves}
+use Rattle.market.specs.Case.{zoned_curves}
 use Rattle.market.specs.CaseFile.{case_of}
 use Rattle.market.specs.Rows.{Row, zone_row, flowgate_row, limit_row, limits, right_side}
 use Rattle.market.specs.Certificate.{certificate_of}
@@ -28,16 +28,16 @@ priced_term b q = lowest (case_of b) (certificate_of q).price
 
 -- of a zone's rows, a flowgate's, a resource's; and of what is priced of a resource
 abbrev pub zone_terms : List ℕ → List ℕ → ℕ → ℤ
-zone_terms b q z = sum_of (λ k. row_term b q (zone_row z k)) curves
+zone_terms b q z = sum_of (λ k. row_term b q (zone_row z k)) zoned_curves
 
 abbrev pub flowgate_term : List ℕ → List ℕ → ℕ → ℤ
 flowgate_term b q f = row_term b q (flowgate_row f)
 
 abbrev pub limit_terms : List ℕ → List ℕ → ℕ → ℤ
-limit_terms b q i = sum_of (λ l. row_term b q (limit_row i l)) limits
+limit_terms b q i = sum_of (λ l. row_term b q (limit_row i l)) (limits (case_of b).version)
 
 abbrev pub least_terms : List ℕ → List ℕ → ℕ → ℤ
-least_terms b q i = sum_of (priced_term b q) (priced_of i)
+least_terms b q i = sum_of (priced_term b q) (priced_of (case_of b).version i)
 
 -- of a resource: of its rows, and of what is priced of it
 abbrev pub resource_terms : List ℕ → List ℕ → ℕ → ℤ

@@ -213,7 +213,7 @@ fn curve_least(price: Millicents, curve: CurveInRange) -> Grains
 }
 
 fn curves_least(priced: &PricedCase<'_>) -> Grains
-    ensures { Sized result.0 (sum_of (priced_term (case_bytes priced.now) (certificate_bytes priced.now)) (across curve_priced curves)) most_curves_terms }
+    ensures { Sized result.0 (sum_of (priced_term (case_bytes priced.now) (certificate_bytes priced.now)) (across curve_priced (curves (the_case priced.now).version))) most_curves_terms }
 {
     let prices = priced.certificate.market_prices();
     let operating = curve_least(prices.operating, priced.curve(Curve::Operating));

@@ -19,10 +19,10 @@ module _ (c : Case) (h : CaseRanges c) (i : ℕ) (n : i < c.resources) where
   limits_small =
       let r = c.resource i in
       record {
-        max = omega (arith, (right_size c h (limit_row i max_with_reserve) n).le, abs_neg (pos (max_of r)));
-        min = (right_size c h (limit_row i minimum) n).le;
-        high = omega (arith, (right_size c h (limit_row i high) n).le, abs_neg (pos (hi_of r)));
-        low = (right_size c h (limit_row i low) n).le;
+        max = omega (arith, (right_size c h (limit_row i max_with_reserve) (n, tt)).le, abs_neg (pos (max_of r)));
+        min = (right_size c h (limit_row i minimum) (n, tt)).le;
+        high = omega (arith, (right_size c h (limit_row i high) (n, tt)).le, abs_neg (hi_of r));
+        low = (right_size c h (limit_row i low) (n, tt)).le;
       }
 
   pub bounds_small : SmallBounds (reserve_bounds_of c (c.resource i))

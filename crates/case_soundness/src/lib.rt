@@ -104,6 +104,9 @@ pub fn resources_sound(b: &[u8], resources: usize, zones: usize) -> bool
     let version = wire::version_at(b);
     let first = version.head_size() + zones * ZONE_SIZE;
     (0..resources).all(|i| {
-        resource_sound(&ResourceBytes::new(b, first + i * version.resource_size()), zones)
+        resource_sound(
+            &ResourceBytes::new(b, first + i * version.resource_size()),
+            zones,
+        )
     })
 }

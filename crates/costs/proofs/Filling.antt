@@ -64,12 +64,12 @@ module _ {steps : ℕ → Step} {n widest : ℕ} (known : StepRanges steps n wid
   filled_most : (j : ℕ) → j < n → filled (widths_of steps) x j ≤ widest
   filled_most j l = omega (arith, filled_below (widths_of steps) x j, (known.width j l).at_most)
 
-  pub step_size : (j : ℕ) → j < n → nat_abs (step_worth steps x j) ≤ 400000 * widest
+  pub step_size_lem : (j : ℕ) → j < n → nat_abs (step_worth steps x j) ≤ 400000 * widest
   unfolding step_worth
-  step_size j l = omega (arith, abs-mul (steps j).price.0 (pos (filled (widths_of steps) x j)), mul-le-mul (known.price j l) (filled_most j l))
+  step_size_lem j l = omega (arith, abs-mul (steps j).price.0 (pos (filled (widths_of steps) x j)), mul-le-mul (known.price j l) (filled_most j l))
 
   pub steps_size : (m : ℕ) → m ≤ n → nat_abs (steps_worth steps x m) ≤ m * (400000 * widest)
-  steps_size m l = upto-size (step_worth steps x) (400000 * widest) m (λ j k. step_size j (omega arith))
+  steps_size m l = upto-size (step_worth steps x) (400000 * widest) m (λ j k. step_size_lem j (omega arith))
 
   -- a step's product fits, and its sum with the steps before it
   pub step_room : (j : ℕ) → j < n → ProductRoom (steps j).price.0 (pos (filled (widths_of steps) x j))
@@ -84,7 +84,7 @@ module _ {steps : ℕ → Step} {n widest : ℕ} (known : StepRanges steps n wid
   steps_room j l =
       let most : 400000 * widest ≤ 400000 * most_in_steps = omega arith in
       let count : j ≤ 16 = omega arith in
-      omega (arith, step_size j l, steps_size j (omega arith), mul-le-mul count most)
+      omega (arith, step_size_lem j l, steps_size j (omega arith), mul-le-mul count most)
 
 -- ---- the steps of an offer, and of a curve
 pub offer_ranges : {o : (List Step)} → RangedSteps o → StepRanges (offer_step o) 10 2000000

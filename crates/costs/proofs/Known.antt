@@ -7,6 +7,7 @@ use lib.IntN.{pos, nat_abs, ◌+ℤ◌, ◌-ℤ◌}
 use Rattle.arith.specs.Sums.{sum_of, total_of, upto}
 use Rattle.arith.proofs.Magnitudes.{abs-add, abs-sub}
 use Rattle.arith.proofs.NaturalSums.{upto-size, sum-size}
+use Rattle.market.proofs.Versions.{all_four_curves}
 use Rattle.market.specs.Case.{Case, curves}
 use Rattle.market.specs.declared.Curve.{Curve}
 use Rattle.market.specs.declared.Curve.TheVariants.{Operating as operating, RegulatingPlusSpinning as regulating_plus_spinning, Regulating as regulating, ShortTerm as short_term}
@@ -41,7 +42,7 @@ module _ {b q : List ℕ} {r z f : ℕ} (s : Standing b q r z f) where
 
   pub energy_known : (i : ℕ) → i < r → UpTo (amounts_of x i).energy.0 2000000
   unfolding amounts_of
-  energy_known i l = record { natural = refl; at_most = amount_small s i energy l }
+  energy_known i l = record { natural = refl; at_most = amount_small s i energy tt l }
 
   energy_size : (i : ℕ) → i < r → nat_abs (steps_worth (offer_step (offer_steps_of (c.resource i))) (nat_abs (amounts_of x i).energy.0) 10) ≤ 8000000000000
   energy_size i l = steps_size (offer_ranges (steps_known i l)) (omega arith) (omega arith) (nat_abs (amounts_of x i).energy.0) 10 (omega arith)
@@ -68,7 +69,7 @@ module _ {b q : List ℕ} {r z f : ℕ} (s : Standing b q r z f) where
 
   -- ---- curves
   pub cleared_known : (k : Curve) → UpTo (pos (x (cleared_quantity k))) most_in_steps
-  cleared_known k = record { natural = refl; at_most = amount_of c (case_ranges s.prices) x s.bounded (cleared_quantity k) tt }
+  cleared_known k = record { natural = refl; at_most = amount_of c (case_ranges s.prices) x s.bounded (cleared_quantity k) (all_four_curves c.version k) }
 
   pub curve_size : (k : Curve) → nat_abs (curve_value c x k) ≤ 12800000000000
   curve_size k = rw (← (curve_value_is c x k)) (steps_size (curve_ranges (curve_ranged (case_ranges s.prices) k)) (omega arith) (omega arith) (x (cleared_quantity k)) 4 (omega arith))
@@ -80,14 +81,14 @@ module _ {b q : List ℕ} {r z f : ℕ} (s : Standing b q r z f) where
   pub three_curves_size : nat_abs (curve_value c x regulating_plus_spinning +ℤ (curve_value c x regulating +ℤ curve_value c x short_term)) ≤ 38400000000000
   three_curves_size = omega (arith, abs-add (curve_value c x regulating_plus_spinning) (curve_value c x regulating +ℤ curve_value c x short_term), curve_size regulating_plus_spinning, two_curves_size)
 
-  curves_size : nat_abs (sum_of (curve_value c x) curves) ≤ 51200000000000
+  curves_size : nat_abs (sum_of (curve_value c x) (curves c.version)) ≤ 51200000000000
   unfolding total_of
-  curves_size = omega (arith, sum-size (curve_value c x) curves, curve_size operating, curve_size regulating_plus_spinning, curve_size regulating, curve_size short_term)
+  curves_size = omega (arith, sum-size (curve_value c x) (curves c.version), curve_size operating, curve_size regulating_plus_spinning, curve_size regulating, curve_size short_term)
 
   -- ---- all
-  pub cost_room : SumRoom (sum_of (resource_worth c x) (upto r)) (sum_of (curve_value c x) curves)
+  pub cost_room : SumRoom (sum_of (resource_worth c x) (upto r)) (sum_of (curve_value c x) (curves c.version))
   cost_room = omega (arith, resources_size r (omega arith), curves_size, s.prices.case_bytes.counts.most_resources)
 
-  pub grains_room : nat_abs (sum_of (resource_worth c x) (upto r) -ℤ sum_of (curve_value c x) curves) ≤ 1000000000000000
+  pub grains_room : nat_abs (sum_of (resource_worth c x) (upto r) -ℤ sum_of (curve_value c x) (curves c.version)) ≤ 1000000000000000
   grains_room =
-      omega (arith, abs-sub (sum_of (resource_worth c x) (upto r)) (sum_of (curve_value c x) curves), resources_size r (omega arith), curves_size, s.prices.case_bytes.counts.most_resources)
+      omega (arith, abs-sub (sum_of (resource_worth c x) (upto r)) (sum_of (curve_value c x) (curves c.version)), resources_size r (omega arith), curves_size, s.prices.case_bytes.counts.most_resources)

@@ -24,6 +24,6 @@ unfolding upper_bound
 no_energy {b} {q} s i l off =
     let c = case_of b in
     let x = (certificate_of q).amount in
-    let below = energy_within c (c.resource i) (at_quantity c (λ a. x a ≤ upper_bound c a) s.bounded (provided_quantity i energy) (resource_below s.prices l)) in
+    let below = energy_within c (c.resource i) (at_quantity c (λ a. x a ≤ upper_bound c a) s.bounded (provided_quantity i energy) (resource_below s.prices l, tt)) in
     let none : x (provided_quantity i energy) ≤ 0 = rw off at below in
     omega arith

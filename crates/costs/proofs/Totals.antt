@@ -11,6 +11,8 @@ use Rattle.arith.specs.Sums.{sum_of, upto, across}
 use Rattle.arith.proofs.Order.{neg-*ℤ}
 use Rattle.arith.proofs.Magnitudes.{abs-add, abs-mul}
 use Rattle.arith.proofs.Sums.{sum-ext, sum-neg, sum-map, sum-across, append_sums}
+use Rattle.market.specs.declared.version.Version.{Version}
+use Rattle.market.specs.declared.version.Version.TheVariants.{First as first}
 use Rattle.market.specs.Case.{Case, curves, energy_steps, curve_steps}
 use Rattle.market.specs.declared.Curve.{Curve}
 use Rattle.market.specs.declared.Curve.TheVariants.{Operating as operating, RegulatingPlusSpinning as regulating_plus_spinning, Regulating as regulating, ShortTerm as short_term}
@@ -51,9 +53,9 @@ module _ {p : ReserveOffers} {a : (PerService Kw)} (h : RangedOffers p) (k : Sma
       omega (arith, abs-add (p.regulating.0 *ℤ a.regulation.0) last, regulation_size, last_size)
 
 -- ---- over the curves, as they are added up
-pub four_curves : (g : Curve → ℤ) → sum_of g curves ≡ g operating +ℤ (g regulating_plus_spinning +ℤ (g regulating +ℤ g short_term))
+pub four_curves : (version : Version) (g : Curve → ℤ) → sum_of g (curves version) ≡ g operating +ℤ (g regulating_plus_spinning +ℤ (g regulating +ℤ g short_term))
 unfolding sum_of
-four_curves g = rw (+ℤ_idr (g short_term))
+four_curves version g = rw (+ℤ_idr (g short_term))
 
 -- ---- of a case and a schedule
 module _ (c : Case) (x : Schedule) where
@@ -63,15 +65,18 @@ module _ (c : Case) (x : Schedule) where
       steps_worth_is (offer_step (offer_steps_of (c.resource i))) (c.resource i).step_width (c.resource i).step_price (x (provided_quantity i energy)) 10 (offer_step_is (c.resource i))
       ∙ sym (sum-map (worth_of c x) (priced_energy_step i) (upto energy_steps))
 
-  reserves_worth_is : (i : ℕ) → reserves_worth (reserve_offers_of (c.resource i)) (amounts_of x i) ≡ sum_of (worth_of c x) (map (priced_whole i) reserve_services)
+  reserves_worth_is : (i : ℕ) → reserves_worth (reserve_offers_of (c.resource i)) (amounts_of x i) ≡ sum_of (worth_of c x) (map (priced_whole i) (reserve_services c.version))
   unfolding reserves_worth reserve_offers_of amounts_of sum_of offer part service_price
-  reserves_worth_is i = ap pos (omega arith)
+  reserves_worth_is i = go c.version
+    where
+      go : (version : Version) → reserves_worth (reserve_offers_of (c.resource i)) (amounts_of x i) ≡ sum_of (worth_of c x) (map (priced_whole i) (reserve_services version))
+      go first = ap pos (omega arith)
 
   -- a resource's record and what it is given
   pub resource_worth_is : (i : ℕ) → steps_worth (offer_step (offer_steps_of (c.resource i))) (nat_abs (amounts_of x i).energy.0) 10 +ℤ reserves_worth (record_of (c.resource i)).offers (amounts_of x i) ≡ resource_worth c x i
   unfolding record_of amounts_of
   resource_worth_is i =
-      sym (append_sums (worth_of c x) (map (priced_energy_step i) (upto energy_steps)) (map (priced_whole i) reserve_services) (sym (energy_worth_is i)) (sym (reserves_worth_is i)))
+      sym (append_sums (worth_of c x) (map (priced_energy_step i) (upto energy_steps)) (map (priced_whole i) (reserve_services c.version)) (sym (energy_worth_is i)) (sym (reserves_worth_is i)))
 
   -- a curve and its cleared quantity
   pub curve_value_is : (k : Curve) → steps_worth (curve_step (curve_steps_of c k)) (x (cleared_quantity k)) 4 ≡ curve_value c x k
@@ -86,14 +91,14 @@ module _ (c : Case) (x : Schedule) where
       ∙ sum-ext (λ j. worth_of c x (priced_curve_step k j)) (λ j. neg_ℤ (pos (c.curve_price k j) *ℤ pos (part c x (priced_curve_step k j)))) (λ j. neg-*ℤ (pos (c.curve_price k j)) (pos (part c x (priced_curve_step k j)))) (upto curve_steps)
       ∙ sum-neg (λ j. pos (c.curve_price k j) *ℤ pos (part c x (priced_curve_step k j))) (upto curve_steps)
 
-  curves_taken : sum_of (worth_of c x) (across curve_priced curves) ≡ neg_ℤ (sum_of (curve_value c x) curves)
+  curves_taken : sum_of (worth_of c x) (across curve_priced (curves c.version)) ≡ neg_ℤ (sum_of (curve_value c x) (curves c.version))
   curves_taken =
-      sum-across (worth_of c x) curve_priced curves
-      ∙ sum-ext (λ k. sum_of (worth_of c x) (curve_priced k)) (λ k. neg_ℤ (curve_value c x k)) curve_taken curves
-      ∙ sum-neg (curve_value c x) curves
+      sum-across (worth_of c x) curve_priced (curves c.version)
+      ∙ sum-ext (λ k. sum_of (worth_of c x) (curve_priced k)) (λ k. neg_ℤ (curve_value c x k)) curve_taken (curves c.version)
+      ∙ sum-neg (curve_value c x) (curves c.version)
 
-  pub cost_is : pos 1000 *ℤ (sum_of (resource_worth c x) (upto c.resources) -ℤ sum_of (curve_value c x) curves) ≡ cost c x
+  pub cost_is : pos 1000 *ℤ (sum_of (resource_worth c x) (upto c.resources) -ℤ sum_of (curve_value c x) (curves c.version)) ≡ cost c x
   unfolding cost priced
   cost_is =
       ap (λ (t : ℤ). pos 1000 *ℤ t)
-      (sym (append_sums (worth_of c x) (across priced_of (upto c.resources)) (across curve_priced curves) (sum-across (worth_of c x) priced_of (upto c.resources)) curves_taken))
+      (sym (append_sums (worth_of c x) (across (priced_of c.version) (upto c.resources)) (across curve_priced (curves c.version)) (sum-across (worth_of c x) (priced_of c.version) (upto c.resources)) curves_taken))

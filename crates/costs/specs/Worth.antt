@@ -19,7 +19,7 @@ worth_of c x p = offer c p *ℤ pos (part c x p)
 
 -- of a resource: its energy steps, g, c, s and o
 abbrev pub resource_worth : Case → Schedule → ℕ → ℤ
-resource_worth c x i = sum_of (worth_of c x) (priced_of i)
+resource_worth c x i = sum_of (worth_of c x) (priced_of c.version i)
 
 -- of a curve: what its steps take off the cost
 unfoldable pub curve_value : Case → Schedule → Curve → ℤ

@@ -108,7 +108,7 @@ pub fn reserves_worth(offers: ReserveOffers, own: BoundedAmounts) -> ThousandGra
 
 // The value of the cleared quantities, curve by curve.
 fn curves_value(bounded: &BoundedCase<'_>) -> ThousandGrains
-    ensures { result ≡ thousands (sum_of (curve_value (the_case bounded.now.priced) (the_amounts bounded.now.priced)) curves) }
+    ensures { result ≡ thousands (sum_of (curve_value (the_case bounded.now.priced) (the_amounts bounded.now.priced)) (curves (the_case bounded.now.priced).version)) }
 {
     let cleared = bounded.priced.certificate.cleared();
     let operating = curve_value(bounded.priced.curve(Curve::Operating), cleared.operating);

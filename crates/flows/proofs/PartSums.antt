@@ -44,7 +44,7 @@ flow_in_parts b q g n =
 -- ---- a part that is small for each energy
 module _ {b q : List ℕ} {r z f : ℕ} (s : Standing b q r z f) (g : ℕ) (h : g < f) (part : ℕ → ℤ) (small : (e : ℕ) → e ≤ most_energy → nat_abs (part e) ≤ most_part) where
   product_small : (i : ℕ) → i < r → nat_abs ((case_of b).shift_factor g i) * nat_abs (part (energy_of q i)) ≤ 1000 * most_part
-  product_small i k = mul-le-mul (factor_size_lem s.prices g i h k) (small (energy_of q i) (amount_small s i energy k))
+  product_small i k = mul-le-mul (factor_size_lem s.prices g i h k) (small (energy_of q i) (amount_small s i energy tt k))
 
   sum_small : (n : ℕ) → n ≤ r → nat_abs (flow_from part b q g n) ≤ n * (1000 * most_part)
   sum_small n k =
@@ -63,7 +63,7 @@ module _ {b q : List ℕ} {r z f : ℕ} (s : Standing b q r z f) (g : ℕ) (h : 
     factor_read = rw factor-is (read_32 (omega (arith, factor_size_lem s.prices g i h k)))
 
     part_read : to_z w16 (of_z w16 v) ≡ part (energy_of q i)
-    part_read = rw part-is (to_z-of_z (fits-abs {w = w16} (omega (arith, small (energy_of q i) (amount_small s i energy k)))))
+    part_read = rw part-is (to_z-of_z (fits-abs {w = w16} (omega (arith, small (energy_of q i) (amount_small s i energy tt k)))))
 
     pub turn_room : nat_abs so_far + nat_abs (to_z w32 (of_z w32 c)) * nat_abs (to_z w16 (of_z w16 v)) < range32
     turn_room = rw (sum_read, factor_read, part_read) (sum_room i k)

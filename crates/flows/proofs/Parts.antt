@@ -15,7 +15,7 @@ use Rattle.flows.specs.Parts.{energy_of, most_energy, EnergyBounded, in_parts, E
 use Rattle.flows.specs.declared.EnergyInParts.{EnergyInParts}
 
 pub energy_bounded : {b q : List ℕ} {r z f : ℕ} → Standing b q r z f → EnergyBounded q r
-energy_bounded s = record { most = λ i h. amount_small s i energy h }
+energy_bounded s = record { most = λ i h. amount_small s i energy tt h }
 
 pub energy_range : {q : List ℕ} {r : ℕ} → EnergyBounded q r → (i : ℕ) → i < r → UpTo (pos (energy_of q i)) most_energy
 energy_range e i h = record { natural = refl; at_most = e.most i h }

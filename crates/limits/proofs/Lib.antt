@@ -2,3 +2,4 @@ pub mod ByKind
 pub mod Factors
 pub mod Widths
 pub mod Products
+pub mod Extremes

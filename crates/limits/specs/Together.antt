@@ -3,7 +3,7 @@
 use Rattle.market.specs.Case.{Case, Resource}
 use Rattle.market.specs.Limits.{max_of, min_of, hi_of, lo_of}
 use Rattle.market.specs.UpperBounds.{bound_when, service_bound, regulation, contingency, on_line_short_term, off_line_short_term}
-use Rattle.market.specs.Records.{power}
+use Rattle.market.specs.Records.{kw, power}
 use Rattle.market.specs.declared.Availability.{Availability}
 use Rattle.market.specs.declared.PerReserve.{PerReserve}
 use Rattle.market.specs.declared.ReserveTerms.{ReserveTerms}
@@ -12,7 +12,7 @@ use Rattle.limits.specs.declared.ResourceLimits.{ResourceLimits}
 use Rattle.limits.specs.declared.ReserveBounds.{ReserveBounds}
 
 unfoldable pub limits_of : Resource → ResourceLimits
-limits_of r = record { max = power (max_of r); min = power (min_of r); high = power (hi_of r); low = power (lo_of r) }
+limits_of r = record { max = power (max_of r); min = kw (min_of r); high = kw (hi_of r); low = kw (lo_of r) }
 
 pub record TermsRanged (terms : PerReserve ReserveTerms) : Type 0 where
   pub regulating : RangedTerms terms.regulating

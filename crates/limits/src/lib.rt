@@ -5,14 +5,15 @@
 // `CurveInRange` carry.
 #![tactic(auto)]
 
-ghost use Rattle.std.specs.Prelude.{◌≡◌, ℕ, ◌+◌, ◌*◌, ◌-◌, ◌/◌, ◌<◌, ◌≤◌, cond, min, max, nat_abs, pos, length, get_or};
+ghost use Rattle.std.specs.Prelude.{◌≡◌, ℕ, ◌+◌, ◌*◌, ◌-◌, ◌/◌, ◌<◌, ◌≤◌, cond, min, nat_abs, pos, length, get_or};
 ghost use Rattle.std.specs.Int.Signed.{lt_z};
+ghost use Rattle.arith.specs.Sums.{min_ℤ, max_ℤ};
 ghost use Rattle.market.specs.Case.{Case, Resource as Figures, width_of};
 ghost use Rattle.market.specs.declared.Curve.{Curve};
 ghost use Rattle.market.specs.Availability.{availability_of, on_line};
 ghost use Rattle.market.specs.Rows.{is_spinning};
 ghost use Rattle.market.specs.UpperBounds.{service_bound, upper_bound, energy, cleared_quantity};
-ghost use Rattle.market.specs.Records.{power, per_minute, state_of, record_of, offer_steps_of, curve_steps_of};
+ghost use Rattle.market.specs.Records.{kw, power, per_minute, state_of, record_of, offer_steps_of, curve_steps_of};
 ghost use Rattle.case_records.specs.Ranged.{UpTo, no_step};
 ghost use Rattle.limits.specs.InRange.{terms_in};
 ghost use Rattle.limits.specs.Together.{TermsRanged};
@@ -93,14 +94,17 @@ fn less(a: Kw, b: Kw) -> Kw
 
 // The lesser and the larger are two functions: each is one line over the library's `min` or `max`, of the numbers as
 // `units::negative_part` says.
+#[tactic(auto, using(crate::proofs::Extremes::lesser_is))]
 pub fn lesser(a: Kw, b: Kw) -> Kw
-    ensures { (m n : ℕ) → a ≡ power m → b ≡ power n → result ≡ power (min m n) }
+    ensures least { result ≡ kw (min_ℤ a.0 b.0) }
+    ensures natural { (m n : ℕ) → a ≡ power m → b ≡ power n → result ≡ power (min m n) }
 {
     Kw(a.0.min(b.0))
 }
 
+#[tactic(auto, using(crate::proofs::Extremes::larger_is))]
 fn larger(a: Kw, b: Kw) -> Kw
-    ensures { (m n : ℕ) → a ≡ power m → b ≡ power n → result ≡ power (max m n) }
+    ensures { result ≡ kw (max_ℤ a.0 b.0) }
 {
     Kw(a.0.max(b.0))
 }

@@ -8,7 +8,7 @@ ghost use Rattle.market.specs.Availability.{availability_of, on_line};
 ghost use Rattle.market.specs.declared.Availability.TheVariants.{OnLine, OffLine};
 ghost use Rattle.market.specs.Limits.{max_of, min_of, hi_of, lo_of, ramp_floor};
 ghost use Rattle.market.specs.UpperBounds.{ramp_of, on_line_bound};
-ghost use Rattle.market.specs.Records.{power, record_of, reserve_terms_of, terms_of};
+ghost use Rattle.market.specs.Records.{kw, power, record_of, reserve_terms_of, terms_of};
 ghost use Rattle.case_records.specs.Ranged.{Ranged};
 
 use crate::{
@@ -65,7 +65,7 @@ fn max_limit(on: bool, r: Resource) -> Kw
 // MIN
 #[tactic(auto, unfolding(market::specs::Limits::min_of, market::specs::Records::record_of, market::specs::Records::output_limits_of, market::specs::Records::state_of))]
 fn min_limit(on: bool, r: Resource) -> Kw
-    ensures { (s : Figures) → on ≡ on_line s → r ≡ record_of s → result ≡ power (min_of s) }
+    ensures { (s : Figures) → on ≡ on_line s → r ≡ record_of s → result ≡ kw (min_of s) }
 {
     if !on {
         return Kw(0);
@@ -110,7 +110,7 @@ impl ResourceInRange {
     // HI
     #[tactic(auto, unfolding(market::specs::Limits::hi_of, market::specs::Records::record_of, market::specs::Records::output_limits_of))]
     fn high_limit(self, on: bool) -> Kw
-        ensures { (s : Figures) → on ≡ on_line s → self.resource ≡ record_of s → result ≡ power (hi_of s) }
+        ensures { (s : Figures) → on ≡ on_line s → self.resource ≡ record_of s → result ≡ kw (hi_of s) }
     {
         if !on {
             return self.resource.limits.economic_max;
@@ -121,7 +121,7 @@ impl ResourceInRange {
 
     // What five minutes of ramp leave of the initial energy.
     fn ramp_floor(self) -> Kw
-        ensures { (s : Figures) → self.resource ≡ record_of s → result ≡ power (ramp_floor s) }
+        ensures { (s : Figures) → self.resource ≡ record_of s → result ≡ kw (ramp_floor s) }
     {
         let fall = ramped(self.resource.ramps.down, Minutes(5));
         less(self.resource.other_powers.initial, fall)
@@ -130,7 +130,7 @@ impl ResourceInRange {
     // LO, of its MAX, `most`, and its HI, `high`: a self-schedule above either of them yields (02, request 6).
     #[tactic(auto, unfolding(market::specs::Limits::lo_of, market::specs::Records::record_of, market::specs::Records::other_powers_of, market::specs::Records::state_of))]
     fn low_limit(self, on: bool, most: Kw, high: Kw) -> Kw
-        ensures { (s : Figures) → on ≡ on_line s → most ≡ power (max_of s) → high ≡ power (hi_of s) → self.resource ≡ record_of s → result ≡ power (lo_of s) }
+        ensures { (s : Figures) → on ≡ on_line s → most ≡ power (max_of s) → high ≡ kw (hi_of s) → self.resource ≡ record_of s → result ≡ kw (lo_of s) }
     {
         if !on {
             return Kw(0);

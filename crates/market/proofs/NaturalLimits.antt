@@ -1,4 +1,4 @@
--- MIN, HI and LO of every resource that an version has today are natural numbers: those of a battery plant will not be.
+-- MIN, HI and LO of every resource that a version has today are natural numbers: those of a battery plant will not be.
 use mathlib.Core.Bool.{Bool, true, false, cond}
 use mathlib.Core.Path.{◌≡◌, refl}
 use Prim.Native.Nat.{ℕ, ◌+◌, ◌*◌, ◌-◌, min, max}

@@ -9,11 +9,11 @@ pub use Rattle.market.specs.declared.Curve.TheVariants.{Operating as operating, 
 pub use Rattle.market.specs.declared.Reserve.{Reserve}
 pub use Rattle.market.specs.declared.Reserve.TheVariants.{Regulating as regulating_reserve, Contingency as contingency_reserve, ShortTerm as short_term_reserve}
 
--- all that an version may have
+-- all that a version may have
 abbrev pub all_curves : List Curve
 all_curves = operating ∷ regulating_plus_spinning ∷ regulating ∷ short_term ∷ []
 
--- which of them an version has, and which have a row and a requirement in each zone
+-- which of them a version has, and which have a row and a requirement in each zone
 abbrev pub has_curve : Version → Curve → Bool
 has_curve version operating = true
 has_curve version regulating_plus_spinning = true
@@ -26,7 +26,7 @@ zoned regulating_plus_spinning = true
 zoned regulating = true
 zoned short_term = true
 
--- those of a zone, and those of an version, in the file's order
+-- those of a zone, and those of a version, in the file's order
 abbrev pub zoned_curves : List Curve
 zoned_curves = operating ∷ regulating_plus_spinning ∷ regulating ∷ short_term ∷ []
 

@@ -25,7 +25,7 @@ pub record CountsWithin (r z f : ℕ) : Type 0 where
   pub most_zones : z ≤ most_zones
   pub most_flowgates : f ≤ most_flowgates
 
--- the largest file of an version
+-- the largest file of a version
 abbrev pub largest_case_size : Version → ℕ
 largest_case_size version = case_size version most_resources most_zones most_flowgates
 

@@ -2,7 +2,7 @@
 use Rattle.std.specs.Prelude.{List, ℕ, ◌+◌, ◌*◌, length}
 use Rattle.market.specs.Bytes.{u8_at, u16_at, u32_at, i16_at, i32_at}
 use Rattle.market.specs.Version.{Version, version_in, ramping, releasing, more}
-use Rattle.market.specs.Case.{Case, Resource, zoned_curves, curves, curve_steps, curve_number, Reserve, regulating_reserve, contingency_reserve, short_term_reserve}
+use Rattle.market.specs.Case.{Case, Resource, zoned_curves, curves, curve_steps, curve_number, Reserve, reserves, regulating_reserve, contingency_reserve, short_term_reserve}
 
 -- multiplier and minutes, a pair for each reserve: contingency, regulating, short-term
 abbrev pub pair_place : Reserve → ℕ
@@ -24,9 +24,12 @@ step_size = 8
 abbrev pub curve_size : ℕ
 curve_size = curve_steps * step_size
 
--- where the curves stand: after length, version, counts, demand and the reserves' figures
+-- where the market requirements stand: after length, version, counts, demand, pairs and shares; and the curves
+abbrev pub requirements_place : Version → ℕ
+requirements_place version = 30
+
 abbrev pub curves_place : Version → ℕ
-curves_place version = 42
+curves_place version = requirements_place version + length reserves * 4
 
 abbrev pub head_size : Version → ℕ
 head_size version = curves_place version + length (curves version) * curve_size
@@ -35,7 +38,7 @@ head_size version = curves_place version + length (curves version) * curve_size
 abbrev pub zone_size : ℕ
 zone_size = length zoned_curves * 4
 
--- inside a resource, where a field stands that is so far from the beginning without what an version may have before it: one byte more
+-- inside a resource, where a field stands that is so far from the beginning without what a version may have before it: one byte more
 -- after the flags; after the regulating maximum four, the emergency minimum
 abbrev pub behind_flags : Version → ℕ → ℕ
 behind_flags version offset = more (ramping version) 1 + offset
@@ -127,7 +130,7 @@ case_as version b =
       multiplier = λ reserve. u16_at b (pair_place reserve);
       minutes = λ reserve. u16_at b (pair_place reserve + 2);
       share = λ reserve. u16_at b (24 + share_order reserve * 2);
-      requirement = λ reserve. u32_at b (30 + share_order reserve * 4);
+      requirement = λ reserve. u32_at b (requirements_place version + share_order reserve * 4);
       curve_width = λ k j. u32_at b (curves_place version + curve_number k * curve_size + j * step_size);
       curve_price = λ k j. u32_at b (curves_place version + 4 + curve_number k * curve_size + j * step_size);
       zone_requirement = λ z k. u32_at b (zone_place version z + curve_number k * 4);

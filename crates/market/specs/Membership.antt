@@ -1,4 +1,4 @@
--- The lists that ask for the version, by membership: each has those of all that an version may have which this one has, in their order.
+-- The lists that ask for the version, by membership: each has those of all that a version may have which this one has, in their order.
 use Rattle.std.specs.Prelude.{◌≡◌}
 use Rattle.arith.specs.Sums.{kept}
 use Rattle.market.specs.Version.{Version}

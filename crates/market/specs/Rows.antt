@@ -13,7 +13,7 @@ use Rattle.market.specs.UpperBounds.{Service, energy, regulation, contingency, o
 pub data Limit : Type 0 where
   max_with_reserve max_with_short_term minimum high low : Limit
 
--- all that an version may have, which of them it has, and those in their order
+-- all that a version may have, which of them it has, and those in their order
 abbrev pub all_limits : List Limit
 all_limits = max_with_reserve ∷ max_with_short_term ∷ minimum ∷ high ∷ low ∷ []
 
@@ -113,7 +113,7 @@ in_reserve r regulating_plus_spinning = entries none one (spins r) none none non
 in_reserve r regulating = entries none one none none none none none
 in_reserve r short_term = entries none none none one one none none
 
--- with u and d where an version has them: e+g+c+u ≤ MAX, e-g-d ≥ MIN (02, request 3)
+-- with u and d where a version has them: e+g+c+u ≤ MAX, e-g-d ≥ MIN (02, request 3)
 unfoldable pub in_limit : Limit → Service → ℤ
 in_limit max_with_reserve = entries minus_one minus_one minus_one none none minus_one none
 in_limit max_with_short_term = entries minus_one none none minus_one none none none

@@ -13,7 +13,7 @@ use Rattle.market.specs.declared.Availability.TheVariants.{OnLine, OffLine, Trip
 pub data Service : Type 0 where
   energy regulation contingency on_line_short_term off_line_short_term ramping_up ramping_down charging : Service
 
--- all that an version may have, and which of them it has
+-- all that a version may have, and which of them it has
 abbrev pub all_services : List Service
 all_services = energy ∷ regulation ∷ contingency ∷ on_line_short_term ∷ off_line_short_term ∷ ramping_up ∷ ramping_down ∷ charging ∷ []
 

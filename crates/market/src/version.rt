@@ -3,13 +3,13 @@
 ghost use Rattle.std.specs.Prelude.{◌≡◌, ◌+◌, ◌≤◌, length};
 ghost use Rattle.market.specs.Version.{known_version, version_of, ramping, storing, releasing};
 ghost use Rattle.market.specs.Case.{curves};
-ghost use Rattle.market.specs.CaseFile.{curves_place, head_size, behind_flags, behind_minimum, resource_size, flowgate_head_size};
+ghost use Rattle.market.specs.CaseFile.{requirements_place, curves_place, head_size, behind_flags, behind_minimum, resource_size, flowgate_head_size};
 ghost use Rattle.market.specs.UpperBounds.{services};
 ghost use Rattle.market.specs.Rows.{limits, system_row_count, resource_row_count};
 ghost use Rattle.market.specs.Cost.{resource_priced_count, curve_priced_count};
 ghost use Rattle.market.specs.Certificate.{balance_price_place, market_prices_place, certificate_head_size, entry_size};
 
-use super::{CURVE_SIZE, CURVE_STEPS, ENERGY_STEPS, ZONED_CURVES};
+use super::{CURVE_SIZE, CURVE_STEPS, ENERGY_STEPS, RESERVES, ZONED_CURVES};
 
 // Version 1 is document 01's. A file's fifth byte is its version.
 #[derive(Clone, Copy, Debug, PartialEq, Eq, Hash)]
@@ -120,11 +120,18 @@ impl Version {
 
 // ---- a case: sizes of its parts, and places in them
 impl Version {
-    // Where the demand curves stand.
+    // Where the market requirements stand.
+    pub fn requirements_place(self) -> usize
+        ensures { result ≡ requirements_place self }
+    {
+        30
+    }
+
+    // And the demand curves.
     pub fn curves_place(self) -> usize
         ensures { result ≡ curves_place self }
     {
-        42
+        self.requirements_place() + 4 * RESERVES
     }
 
     // Length, version, counts and the market's figures.

@@ -6,10 +6,11 @@ use native.Mathlib.Omega.{arith}
 use lib.IntN.{ℤ, pos, ◌+ℤ◌, ◌-ℤ◌, ◌*ℤ◌}
 use Rattle.arith.proofs.Linear.{sorted, count}
 use Rattle.arith.proofs.Magnitudes.{Size, size-add, size-sub}
+use lib.Dec.{T}
 use Rattle.market.specs.Case.{Case, Resource}
 use Rattle.market.specs.declared.Resource.{Resource as Record}
 use Rattle.market.specs.UpperBounds.{regulation, contingency, on_line_short_term, off_line_short_term}
-use Rattle.market.specs.Rows.{limit_row, Limit, max_with_reserve, max_with_short_term, minimum, high, low, is_spinning}
+use Rattle.market.specs.Rows.{limit_row, Limit, max_with_reserve, max_with_short_term, minimum, high, low, is_spinning, has_limit}
 use Rattle.market.specs.Certificate.{Prices}
 use Rattle.market.specs.Cost.{priced_energy_step, priced_whole, quantity_of}
 use Rattle.market.specs.Bound.{net_price}
@@ -40,8 +41,8 @@ module _ (c : Case) (y : Prices) (h : CaseRanges c) (p : PriceRanges c y) (i : �
       let r = h.resource i n in
       record { below = n; zoned = omega (arith, r.zone_from); zone_below = omega (arith, r.zone_from, r.zone_to) }
 
-  own_size : (l : Limit) → Size (y (limit_row i l)) most_price
-  own_size l = p.price (limit_row i l) n
+  own_size : (l : Limit) → T (has_limit c.version l) → Size (y (limit_row i l)) most_price
+  own_size l t = p.price (limit_row i l) (n, t)
 
   pub offers_small : SmallOffers (reserve_offers_of (c.resource i))
   unfolding reserve_offers_of
@@ -53,11 +54,11 @@ module _ (c : Case) (y : Prices) (h : CaseRanges c) (p : PriceRanges c y) (i : �
   unfolding limit_prices_of
   limit_prices_small =
       record {
-        max_with_reserve = (own_size max_with_reserve).le;
-        max_with_short_term = (own_size max_with_short_term).le;
-        minimum = (own_size minimum).le;
-        high = (own_size high).le;
-        low = (own_size low).le;
+        max_with_reserve = (own_size max_with_reserve tt).le;
+        max_with_short_term = (own_size max_with_short_term tt).le;
+        minimum = (own_size minimum tt).le;
+        high = (own_size high tt).le;
+        low = (own_size low tt).le;
       }
 
   pub lmp_small : SmallLmp (millicents (lmp_of c y i))
@@ -95,11 +96,11 @@ module _ (c : Case) (y : Prices) (h : CaseRanges c) (p : PriceRanges c y) (i : �
   unfolding nets_of quantity_of
   nets_small =
       record {
-        energy = (size-sub (size-sub (size-add (size-sub (size-add (own_size max_with_reserve) (own_size max_with_short_term)) (own_size minimum)) (own_size high)) (own_size low)) (lmp_size c y h p i n)).le;
-        regulation = (net_size c y h p (priced_whole i regulation) (n, tt)).le;
-        contingency = (net_size c y h p (priced_whole i contingency) (n, tt)).le;
-        on_line_short_term = (net_size c y h p (priced_whole i on_line_short_term) (n, tt)).le;
-        off_line_short_term = (net_size c y h p (priced_whole i off_line_short_term) (n, tt)).le;
+        energy = (size-sub (size-sub (size-add (size-sub (size-add (own_size max_with_reserve tt) (own_size max_with_short_term tt)) (own_size minimum tt)) (own_size high tt)) (own_size low tt)) (lmp_size c y h p i n)).le;
+        regulation = (net_size c y h p (priced_whole i regulation) (n, (tt, tt))).le;
+        contingency = (net_size c y h p (priced_whole i contingency) (n, (tt, tt))).le;
+        on_line_short_term = (net_size c y h p (priced_whole i on_line_short_term) (n, (tt, tt))).le;
+        off_line_short_term = (net_size c y h p (priced_whole i off_line_short_term) (n, (tt, tt))).le;
       }
 
 -- the zone in a resource's record

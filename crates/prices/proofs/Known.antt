@@ -8,9 +8,11 @@ use lib.IntN.{pos, nat_abs, ◌*ℤ◌, ◌-ℤ◌}
 use Rattle.arith.specs.Sums.{sum_of, upto}
 use Rattle.arith.proofs.Magnitudes.{abs-mul}
 use Rattle.arith.proofs.NaturalSums.{upto-size}
+use lib.Dec.{T}
+use Rattle.market.specs.Sizes.{most_provided}
 use Rattle.market.specs.CaseFile.{case_of}
 use Rattle.market.specs.declared.Curve.TheVariants.{Operating as operating, RegulatingPlusSpinning as regulating_plus_spinning, Regulating as regulating, ShortTerm as short_term}
-use Rattle.market.specs.UpperBounds.{Service, energy, regulation, contingency, on_line_short_term, off_line_short_term, provided_quantity}
+use Rattle.market.specs.UpperBounds.{Service, energy, regulation, contingency, on_line_short_term, off_line_short_term, provided_quantity, has_service}
 use Rattle.market.specs.Rows.{balance_row, market_row, zone_row, flowgate_row}
 use Rattle.market.specs.Certificate.{Prices, certificate_of}
 use Rattle.market.proofs.Ranges.{CaseRanges, PriceRanges, valid_ranges, price_ranges}
@@ -100,10 +102,10 @@ module _ {b q : List ℕ} {r z f : ℕ} (s : PricesStand b q r z f) where
   unfolding reserve_prices_of
   zone_small y h =
       record {
-        operating = (prices_in_range.price (zone_row y operating) (zone_below h)).le;
-        regulating_plus_spinning = (prices_in_range.price (zone_row y regulating_plus_spinning) (zone_below h)).le;
-        regulating = (prices_in_range.price (zone_row y regulating) (zone_below h)).le;
-        short_term = (prices_in_range.price (zone_row y short_term) (zone_below h)).le;
+        operating = (prices_in_range.price (zone_row y operating) (zone_below h, tt)).le;
+        regulating_plus_spinning = (prices_in_range.price (zone_row y regulating_plus_spinning) (zone_below h, tt)).le;
+        regulating = (prices_in_range.price (zone_row y regulating) (zone_below h, tt)).le;
+        short_term = (prices_in_range.price (zone_row y short_term) (zone_below h, tt)).le;
       }
 
 pub zone_prices_are : (y : Prices) (zone : ℕ) → added_prices (reserve_prices_of y market_row) (reserve_prices_of y (zone_row zone)) ≡ zone_prices_of y zone
@@ -112,16 +114,16 @@ zone_prices_are y zone = refl
 
 -- ---- amounts within their bounds
 module _ {b q : List ℕ} {r z f : ℕ} (s : Standing b q r z f) where
-  pub amount_small : (i : ℕ) (v : Service) → i < r → (certificate_of q).amount (provided_quantity i v) ≤ 2000000
-  amount_small i v h = amount_of (case_of b) (case_ranges s.prices) (certificate_of q).amount s.bounded (provided_quantity i v) (resource_below s.prices h)
+  pub amount_small : (i : ℕ) (v : Service) → T (has_service (case_of b).version v) → i < r → (certificate_of q).amount (provided_quantity i v) ≤ most_provided v
+  amount_small i v t h = amount_of (case_of b) (case_ranges s.prices) (certificate_of q).amount s.bounded (provided_quantity i v) (resource_below s.prices h, t)
 
   pub amounts_small : (i : ℕ) → i < r → SmallAmounts (amounts_of (certificate_of q).amount i)
   unfolding amounts_of
   amounts_small i h =
       record {
-        energy = amount_small i energy h;
-        regulation = amount_small i regulation h;
-        contingency = amount_small i contingency h;
-        on_line_short_term = amount_small i on_line_short_term h;
-        off_line_short_term = amount_small i off_line_short_term h;
+        energy = amount_small i energy tt h;
+        regulation = amount_small i regulation tt h;
+        contingency = amount_small i contingency tt h;
+        on_line_short_term = amount_small i on_line_short_term tt h;
+        off_line_short_term = amount_small i off_line_short_term tt h;
       }

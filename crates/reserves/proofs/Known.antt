@@ -28,17 +28,17 @@ abs-if false v h = omega arith
 
 module _ {b q : List ℕ} {r z f : ℕ} (s : Standing b q r z f) where
   pub spin_small : (i : ℕ) → i < r → nat_abs (cond (is_spinning ((case_of b).resource i)) (kw_of (certificate_of q).amount i contingency) (pos 0)) ≤ 2000000
-  spin_small i h = abs-if (is_spinning ((case_of b).resource i)) (kw_of (certificate_of q).amount i contingency) (amount_small s i contingency h)
+  spin_small i h = abs-if (is_spinning ((case_of b).resource i)) (kw_of (certificate_of q).amount i contingency) (amount_small s i contingency tt h)
 
   -- what resource i gives to a row
   pub given_small : (k : Curve) (i : ℕ) → i < r → nat_abs (reserve_of (case_of b) (certificate_of q).amount k i) ≤ 4000000
-  given_small operating i h = omega (arith, amount_small s i regulation h, amount_small s i contingency h)
+  given_small operating i h = omega (arith, amount_small s i regulation tt h, amount_small s i contingency tt h)
   given_small regulating_plus_spinning i h =
       let x = (certificate_of q).amount in
       let spin = cond (is_spinning ((case_of b).resource i)) (kw_of x i contingency) (pos 0) in
-      omega (arith, abs-add (kw_of x i regulation) spin, amount_small s i regulation h, spin_small i h)
-  given_small regulating i h = omega (arith, amount_small s i regulation h)
-  given_small short_term i h = omega (arith, amount_small s i on_line_short_term h, amount_small s i off_line_short_term h)
+      omega (arith, abs-add (kw_of x i regulation) spin, amount_small s i regulation tt h, spin_small i h)
+  given_small regulating i h = omega (arith, amount_small s i regulation tt h)
+  given_small short_term i h = omega (arith, amount_small s i on_line_short_term tt h, amount_small s i off_line_short_term tt h)
 
   pub given_in_zone_small : (y : ℕ) (k : Curve) (i : ℕ) → i < r → nat_abs (reserve_in_zone (case_of b) (certificate_of q).amount y k i) ≤ 4000000
   given_in_zone_small y k i h = abs-if (eqb ((case_of b).resource i).zone (suc y)) (reserve_of (case_of b) (certificate_of q).amount k i) (given_small k i h)

@@ -52,11 +52,12 @@ impl<'a> CaseHead<'a> {
     {
         let pair = reserve.pair_place();
         let n = reserve.share_order();
+        let requirements = super::version_at(self.bytes).requirements_place();
         FileTerms {
             multiplier: super::u16_at(self.bytes, pair),
             minutes: super::u16_at(self.bytes, pair + 2),
             share: super::u16_at(self.bytes, 24 + n * 2),
-            requirement: super::u32_at(self.bytes, 30 + n * 4),
+            requirement: super::u32_at(self.bytes, requirements + n * 4),
         }
     }
 

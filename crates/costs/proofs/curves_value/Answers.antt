@@ -48,4 +48,4 @@ pub returns : goal.returns
 unfolding cleared_of
 returns c =
     let is = curve_value_is (the_case c.args.bounded.now.priced) (the_amounts c.args.bounded.now.priced) in
-    rw (c.sum-3.ensures, c.sum-2.ensures, c.sum.ensures, c.curve_value-operating.ensures, c.curve_value-spinning.ensures, c.curve_value-regulating.ensures, c.curve_value-short_term.ensures, c.curve.ensures, c.curve-2.ensures, c.curve-3.ensures, c.curve-4.ensures, c.cleared-cleared.ensures, is operating, is regulating_plus_spinning, is regulating, is short_term, four_curves (curve_value (the_case c.args.bounded.now.priced) (the_amounts c.args.bounded.now.priced)))
+    rw (c.sum-3.ensures, c.sum-2.ensures, c.sum.ensures, c.curve_value-operating.ensures, c.curve_value-spinning.ensures, c.curve_value-regulating.ensures, c.curve_value-short_term.ensures, c.curve.ensures, c.curve-2.ensures, c.curve-3.ensures, c.curve-4.ensures, c.cleared-cleared.ensures, is operating, is regulating_plus_spinning, is regulating, is short_term, four_curves (the_case c.args.bounded.now.priced).version (curve_value (the_case c.args.bounded.now.priced) (the_amounts c.args.bounded.now.priced)))

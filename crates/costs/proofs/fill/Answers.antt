@@ -10,7 +10,7 @@ use Rattle.costs.proofs.fill.Goals as goal
 use Rattle.costs.proofs.fill.Goals.{After-lesser-part}
 
 part : (c : After-lesser-part) → c.lesser-part.result ≡ power (min (nat_abs c.args.width.0) (nat_abs c.args.left.0))
-part c = step_part c.requires.0 c.requires.1 c.lesser-part.ensures
+part c = step_part c.requires.0 c.requires.1 c.lesser-part.ensures.natural
 
 pub difference-requires : goal.difference-requires
 difference-requires c =
