@@ -7,9 +7,9 @@ ghost use Rattle.market.specs.Bytes.{within_ℤ};
 ghost use Rattle.market.specs.CaseCheck.{most_resources, most_zones, CountsWithin};
 ghost use Rattle.market.specs.Numbers.{u8, field_width, field_low, field_high, field_at, head_fields, resource_fields, case_fields, certificate_head_fields, certificate_fields};
 ghost use Rattle.wire.specs.Within.{Within};
-ghost use Rattle.fields.specs.Layout.{field_of, fields_of, head_numbers, resource_numbers, certificate_head_numbers};
+ghost use Rattle.fields.specs.Layout.{field_of, fields_of, head_numbers, resource_numbers, certificate_head_numbers, entry_numbers};
 
-use market::Counts;
+use market::{Counts, Version};
 
 // Unsigned or in two's complement, big-endian.
 #[derive(Clone, Copy, Drop)]
@@ -61,23 +61,12 @@ impl Field {
     }
 }
 
-// ---- how many numbers a part of a file has
-// Of a case.
-const HEAD_NUMBERS: usize = 48;
-
-const RESOURCE_NUMBERS: usize = 43;
-
-// Of a certificate.
-const CERTIFICATE_HEAD_NUMBERS: usize = 12;
-
-const ENTRY_NUMBERS: usize = 10;
-
-// Of both, for each demand curve one.
-const ZONE_NUMBERS: usize = 4;
+// Of a zone in both files: one for each of its demand curves.
+const ZONE_NUMBERS: usize = market::ZONED_CURVES;
 
 // ---- the tables, in the order of the file
 // A case's own figures, before those of its zones.
-const HEAD: [Field; HEAD_NUMBERS] = [
+const HEAD: [Field; 48] = [
     // resources, zones, flowgates
     Field::U8,
     Field::U8,
@@ -137,7 +126,7 @@ const HEAD: [Field; HEAD_NUMBERS] = [
     Field::U32,
 ];
 
-const RESOURCE: [Field; RESOURCE_NUMBERS] = [
+const RESOURCE: [Field; 43] = [
     Field::U8, // kind
     Field::U8, // zone
     Field::U8, // breaker
@@ -185,7 +174,7 @@ const RESOURCE: [Field; RESOURCE_NUMBERS] = [
 ];
 
 // A certificate's figures, before those of its zones; all later ones are u32.
-const CERTIFICATE_HEAD: [Field; CERTIFICATE_HEAD_NUMBERS] = [
+const CERTIFICATE_HEAD: [Field; 12] = [
     // resources, zones, flowgates
     Field::U8,
     Field::U8,
@@ -204,44 +193,85 @@ const CERTIFICATE_HEAD: [Field; CERTIFICATE_HEAD_NUMBERS] = [
     Field::U32,
 ];
 
+// ---- how many numbers a part of a file has: a case's head, each resource of it, a certificate's head, what it says of each resource
+fn head_numbers(version: Version) -> usize
+    ensures { result ≡ head_numbers version }
+{
+    match version {
+        Version::First => HEAD.len(),
+    }
+}
+
+#[tactic(auto, using(crate::proofs::Tables::resource_long))]
+fn resource_numbers(version: Version) -> usize
+    ensures { result ≡ resource_numbers version }
+{
+    match version {
+        Version::First => RESOURCE.len(),
+    }
+}
+
+fn certificate_head_numbers(version: Version) -> usize
+    ensures { result ≡ certificate_head_numbers version }
+{
+    match version {
+        Version::First => CERTIFICATE_HEAD.len(),
+    }
+}
+
+fn entry_numbers(version: Version) -> usize
+    ensures { result ≡ entry_numbers version }
+{
+    version.services() + version.resource_rows()
+}
+
 // A table for each part, and a function that reads it: an array's length is in its type, and its definition in the clause.
-fn head_field(k: usize) -> Field
-    requires { k < head_numbers }
-    ensures { field_of result ≡ get_or head_fields k u8 }
+fn head_field(version: Version, k: usize) -> Field
+    requires { k < head_numbers version }
+    ensures { field_of result ≡ get_or (head_fields version) k u8 }
 {
-    HEAD[k]
+    match version {
+        Version::First => HEAD[k],
+    }
 }
 
-fn resource_field(k: usize) -> Field
-    requires { k < resource_numbers }
-    ensures { field_of result ≡ get_or resource_fields k u8 }
+#[tactic(auto, using(crate::proofs::Tables::resource_long))]
+fn resource_field(version: Version, k: usize) -> Field
+    requires { k < resource_numbers version }
+    ensures { field_of result ≡ get_or (resource_fields version) k u8 }
 {
-    RESOURCE[k]
+    match version {
+        Version::First => RESOURCE[k],
+    }
 }
 
-fn certificate_head_field(k: usize) -> Field
-    requires { k < certificate_head_numbers }
-    ensures { field_of result ≡ get_or certificate_head_fields k u8 }
+fn certificate_head_field(version: Version, k: usize) -> Field
+    requires { k < certificate_head_numbers version }
+    ensures { field_of result ≡ get_or (certificate_head_fields version) k u8 }
 {
-    CERTIFICATE_HEAD[k]
+    match version {
+        Version::First => CERTIFICATE_HEAD[k],
+    }
 }
 
 // ---- the k-th number's field, for any number of flowgates
-#[tactic(auto, using(crate::proofs::Places::case_places))]
+#[tactic(auto, using(crate::proofs::Places::case_places, crate::proofs::Tables::resource_long))]
 fn case_field(n: Counts, k: usize) -> Field
     requires { (n.resources ≤ most_resources) × (n.zones ≤ most_zones) }
-    ensures { (f : ℕ) → k < length (case_fields n.resources n.zones f) → field_of result ≡ get_or (case_fields n.resources n.zones f) k u8 }
+    ensures { (f : ℕ) → k < length (case_fields n.version n.resources n.zones f) → field_of result ≡ get_or (case_fields n.version n.resources n.zones f) k u8 }
 {
-    if k < HEAD_NUMBERS {
-        return head_field(k);
+    let head_end = head_numbers(n.version);
+    if k < head_end {
+        return head_field(n.version, k);
     }
-    let zones_end = HEAD_NUMBERS + ZONE_NUMBERS * n.zones;
+    let zones_end = head_end + ZONE_NUMBERS * n.zones;
     if k < zones_end {
         return Field::U32;
     }
-    let resources_end = zones_end + RESOURCE_NUMBERS * n.resources;
+    let each = resource_numbers(n.version);
+    let resources_end = zones_end + n.resources * each;
     if k < resources_end {
-        return resource_field((k - zones_end) % RESOURCE_NUMBERS);
+        return resource_field(n.version, (k - zones_end) % each);
     }
     // a flowgate's limit, then its shift factors
     if (k - resources_end) % (n.resources + 1) == 0 {
@@ -251,11 +281,11 @@ fn case_field(n: Counts, k: usize) -> Field
 }
 
 #[tactic(auto, using(crate::proofs::Places::certificate_places))]
-fn certificate_field(k: usize) -> Field
-    ensures { (n z f : ℕ) → k < length (certificate_fields n z f) → field_of result ≡ get_or (certificate_fields n z f) k u8 }
+fn certificate_field(n: Counts, k: usize) -> Field
+    ensures { (r z f : ℕ) → k < length (certificate_fields n.version r z f) → field_of result ≡ get_or (certificate_fields n.version r z f) k u8 }
 {
-    if k < CERTIFICATE_HEAD_NUMBERS {
-        return certificate_head_field(k);
+    if k < certificate_head_numbers(n.version) {
+        return certificate_head_field(n.version, k);
     }
     Field::U32
 }
@@ -271,33 +301,33 @@ pub enum File {
 impl File {
     pub fn field_at(self, n: Counts, k: usize) -> Field
         requires { (n.resources ≤ most_resources) × (n.zones ≤ most_zones) }
-        ensures { (f : ℕ) → k < length (fields_of self n.resources n.zones f) → field_of result ≡ get_or (fields_of self n.resources n.zones f) k u8 }
+        ensures { (f : ℕ) → k < length (fields_of self n.version n.resources n.zones f) → field_of result ≡ get_or (fields_of self n.version n.resources n.zones f) k u8 }
     {
         match self {
             File::Case => case_field(n, k),
-            File::Certificate => certificate_field(k),
+            File::Certificate => certificate_field(n, k),
         }
     }
 
     // How many numbers a file has. That the counts are in their ranges stands in `requires`, and in no type: `Counts` holds what any three
     // bytes say, before 3 is tested of them, and a second type would be opened again by each reader, which has a count in each field.
-    #[tactic(auto, using(market::proofs::FileSizes::case_count, market::proofs::FileSizes::certificate_count))]
+    #[tactic(auto, using(crate::proofs::Tables::resource_long, crate::proofs::Places::case_long, market::proofs::FileSizes::certificate_count))]
     pub fn count(self, n: Counts) -> usize
         requires { CountsWithin n.resources n.zones n.flowgates }
-        ensures { result ≡ length (fields_of self n.resources n.zones n.flowgates) }
+        ensures { result ≡ length (fields_of self n.version n.resources n.zones n.flowgates) }
     {
         match self {
             File::Case => {
-                HEAD_NUMBERS
+                head_numbers(n.version)
                     + ZONE_NUMBERS * n.zones
-                    + RESOURCE_NUMBERS * n.resources
+                    + n.resources * resource_numbers(n.version)
                     + n.flowgates * (n.resources + 1)
             }
             File::Certificate => {
-                CERTIFICATE_HEAD_NUMBERS
+                certificate_head_numbers(n.version)
                     + ZONE_NUMBERS * n.zones
                     + n.flowgates
-                    + ENTRY_NUMBERS * n.resources
+                    + n.resources * entry_numbers(n.version)
             }
         }
     }

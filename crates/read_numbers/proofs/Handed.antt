@@ -12,10 +12,12 @@ use Rattle.market.specs.declared.Refusal.TheVariants.{BufferShort}
 use Rattle.market.specs.declared.Counts.{Counts}
 use Rattle.market.specs.CaseCheck.{CountsWithin}
 use Rattle.market.specs.Refusals.{Finding, clear, holds, answered, first_of, buffer_after, AllClear}
-use Rattle.market.specs.Numbers.{Field, numbers_at, numbers_of, read_case, read_case_grounds, read_case_buffer, read_certificate, read_certificate_grounds, read_certificate_buffer, write_case, write_case_buffer, write_certificate, write_certificate_buffer}
+use Rattle.arith.specs.Sums.{total_of}
+use Rattle.market.specs.declared.Version.{Version}
+use Rattle.market.specs.Numbers.{Field, u8, u16, u32, i16, i32, field_width, case_fields, certificate_fields, numbers_at, numbers_of, read_case, read_case_grounds, read_case_buffer, read_certificate, read_certificate_grounds, read_certificate_buffer, write_case, write_case_buffer, write_certificate, write_certificate_buffer}
 use Rattle.market.specs.RoundTrips.{AreBytes}
 use Rattle.market.proofs.FieldLists.{numbers_length}
-use Rattle.market.proofs.FileSizes.{case_count, certificate_count, flowgate_numbers_within}
+use Rattle.market.proofs.FileSizes.{case_fills, certificate_fills, case_size_most, certificate_size_most, largest_case}
 use Rattle.market.proofs.LentBuffer.{refused_before, too_short, long_enough}
 use Rattle.market.proofs.RoundTrips.{received, round_trips}
 use Rattle.case_check.proofs.Passing.{refused_holds}
@@ -27,11 +29,24 @@ use Rattle.read_numbers.specs.Reading.{filed_counts, reading_grounds, grounds_wi
 -- ---- how many numbers
 -- the fields of a file by its counts
 abbrev pub fields_by : File → Counts → List Field
-fields_by file n = fields_of file n.resources n.zones n.flowgates
+fields_by file n = fields_of file n.version n.resources n.zones n.flowgates
 
-pub count_small : (file : File) {r z f : ℕ} → CountsWithin r z f → length (fields_of file r z f) < 4294967296
-count_small Case {r} {z} {f} n = omega (arith, case_count r z f, flowgate_numbers_within n, n.most_resources, n.most_zones)
-count_small Certificate {r} {z} {f} n = omega (arith, certificate_count r z f, n.most_resources, n.most_zones, n.most_flowgates)
+-- no field is without a byte
+some_width : (field : Field) → 1 ≤ field_width field
+some_width u8 = omega arith
+some_width u16 = omega arith
+some_width u32 = omega arith
+some_width i16 = omega arith
+some_width i32 = omega arith
+
+fields_most : (fields : List Field) → length fields ≤ total_of field_width fields
+unfolding total_of
+fields_most [] = omega arith
+fields_most (field ∷ fields) = omega (arith, some_width field, fields_most fields)
+
+pub count_small : (file : File) (version : Version) {r z f : ℕ} → CountsWithin r z f → length (fields_of file version r z f) < 4294967296
+count_small Case version {r} {z} {f} n = omega (arith, fields_most (case_fields version r z f), case_fills version r z f, case_size_most version n, largest_case version)
+count_small Certificate version {r} {z} {f} n = omega (arith, fields_most (certificate_fields version r z f), certificate_fills version r z f, certificate_size_most version n, largest_case version)
 
 module _ (file : File) (b : List ℕ) (old : List ℤ) where
   -- the answer and the buffer afterwards

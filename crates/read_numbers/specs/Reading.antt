@@ -2,6 +2,7 @@
 use Rattle.market.specs.declared.Refusal.{Refusal}
 use Rattle.std.specs.Prelude.{Result, Ok, List, [], ◌∷◌, ◌++◌, ◌≡◌, ℕ, ◌≤◌, ℤ, length, take, drop}
 use Rattle.market.specs.declared.Counts.{Counts}
+use Rattle.market.specs.Version.{version_in}
 use Rattle.market.specs.Bytes.{u8_at}
 use Rattle.market.specs.Refusals.{Finding, answered, first_of, buffer_after}
 use Rattle.market.specs.Outcome.{case_grounds, room}
@@ -10,9 +11,9 @@ use Rattle.fields.specs.declared.File.{File}
 use Rattle.fields.specs.declared.File.TheVariants.{Case, Certificate}
 use Rattle.fields.specs.Layout.{fields_of}
 
--- R, Z and F of either file
+-- the version, R, Z and F of either file
 abbrev pub filed_counts : List ℕ → Counts
-filed_counts b = record { resources = u8_at b 5; zones = u8_at b 6; flowgates = u8_at b 7 }
+filed_counts b = record { version = version_in b; resources = u8_at b 5; zones = u8_at b 6; flowgates = u8_at b 7 }
 
 -- a case 1 to 7, a certificate 8, 9, 3, 11
 abbrev pub reading_grounds : File → List ℕ → List Finding

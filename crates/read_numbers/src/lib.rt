@@ -10,7 +10,7 @@ ghost use Rattle.read_numbers.specs.FileBytes.{FileBytes};
 ghost use Rattle.read_numbers.specs.Reading.{filed_counts, reading_grounds, read_file, read_file_buffer, WrittenBack};
 
 use fields::File;
-use market::{CERTIFICATE_HEAD_SIZE, Counts, Refusal};
+use market::{Counts, LEAST_CERTIFICATE_SIZE, Refusal};
 
 // 8, 9, 3, 11: no case is lent.
 // `case_check::shape_stage` has other grounds, in another order and by other numbers: one function for both would take all of them.
@@ -18,7 +18,7 @@ use market::{CERTIFICATE_HEAD_SIZE, Counts, Refusal};
 fn certificate_stage(q: &[u8]) -> Result<Counts, Refusal>
     ensures { result ≡ answered (filed_counts q.now) (first_of (certificate_file_grounds q.now)) }
 {
-    if !case_check::length_right(q, CERTIFICATE_HEAD_SIZE) {
+    if !case_check::length_right(q, LEAST_CERTIFICATE_SIZE) {
         return Err(Refusal::CertificateLength);
     }
     if !case_check::version_right(q) {
@@ -36,8 +36,8 @@ fn certificate_stage(q: &[u8]) -> Result<Counts, Refusal>
 
 // The numbers, field by field; what stands beyond them in the buffer stays.
 fn read_numbers(file: File, b: &[u8], n: Counts, out: &mut [i64])
-    requires { FileBytes file b.now n.resources n.zones n.flowgates × (length (fields_of file n.resources n.zones n.flowgates) ≤ length out.old) }
-    ensures { out.new ≡ numbers_at (fields_of file n.resources n.zones n.flowgates) b.now 5 ++ drop (length (fields_of file n.resources n.zones n.flowgates)) out.old }
+    requires { FileBytes file b.now n.version n.resources n.zones n.flowgates × (length (fields_of file n.version n.resources n.zones n.flowgates) ≤ length out.old) }
+    ensures { out.new ≡ numbers_at (fields_of file n.version n.resources n.zones n.flowgates) b.now 5 ++ drop (length (fields_of file n.version n.resources n.zones n.flowgates)) out.old }
 {
     // after length and version
     let mut at: usize = 5;

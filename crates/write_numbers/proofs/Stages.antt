@@ -14,13 +14,14 @@ use Rattle.arith.proofs.AllTests.{and_split}
 use Rattle.arith.proofs.Order.{zl}
 use Rattle.market.specs.declared.Refusal.{Refusal}
 use Rattle.market.specs.declared.Counts.{Counts}
-use Rattle.market.specs.Bytes.{within_ℤ}
+use Rattle.market.specs.Bytes.{u8_at, within_ℤ}
+use Rattle.market.specs.Version.{version_of, written_version}
 use Rattle.market.specs.CaseFile.{case_of, case_as}
 use Rattle.market.specs.CaseCheck.{most_resources, most_zones, most_flowgates, CountsWithin}
 use Rattle.market.specs.Records.{counts_in}
 use Rattle.market.specs.Refusals.{clear, first_of}
 use Rattle.market.specs.Outcome.{case_grounds}
-use Rattle.market.specs.Numbers.{field_at, numbers_at, numbers_fit, case_fields, numbers_of, case_numbers, count_in, counts_in_range, fields_for, case_file, list_grounds}
+use Rattle.market.specs.Numbers.{field_at, numbers_at, numbers_fit, case_fields, numbers_of, case_numbers, count_in, counts_in_range, fields_for, file_of, file_for, case_file, list_grounds}
 use Rattle.market.proofs.Grounds.{none_holds, first_later, first_earlier, earlier_clear}
 use Rattle.market.proofs.Passed.{list_passed as tests-passed}
 use Rattle.market.proofs.RoundTrips.{case_filed}
@@ -54,41 +55,46 @@ pub counts_within : (vs : List ℤ) → counts_in_range vs ≡ true → CountsWi
 counts_within vs e = let m = counts_from vs e in record { most_resources = m.0.1; most_zones = m.1.1; most_flowgates = m.2.1 }
 
 -- ---- a list past them
-listed : (file : File) (vs : List ℤ) → first_of (list_grounds (fields_of file) vs) ≡ clear → Listed file vs (count_in vs 0) (count_in vs 1) (count_in vs 2)
+listed : (file : File) (vs : List ℤ) → first_of (list_grounds (fields_of file) written_version vs) ≡ clear → Listed file vs (version_of written_version) (count_in vs 0) (count_in vs 1) (count_in vs 2)
 unfolding fields_for
 listed file vs h =
-    let passed = tests-passed (fields_of file) vs (none_holds (list_grounds (fields_of file) vs) h) in
+    let passed = tests-passed (fields_of file) written_version vs (none_holds (list_grounds (fields_of file) written_version vs) h) in
     record {
+      version_is = refl;
       resources = refl;
       zones = refl;
       flowgates = refl;
       counts = counts_within vs (is_true (counts_in_range vs) passed.counts_in_range);
-      fit = is_true (numbers_fit (fields_for (fields_of file) vs) vs) passed.numbers_fit_lem;
+      fit = is_true (numbers_fit (fields_for (fields_of file) written_version vs) vs) passed.numbers_fit_lem;
       none_holds = h;
     }
 
 -- ---- what the stages' answers tell
 module _ (file : File) (vs : List ℤ) where
-  pub list_passed : (n : Counts) → answered (listed_counts vs) (first_of (list_grounds (fields_of file) vs)) ≡ Ok n → Listed file vs n.resources n.zones n.flowgates
+  pub list_passed : (n : Counts) → answered (listed_counts vs) (first_of (list_grounds (fields_of file) written_version vs)) ≡ Ok n → Listed file vs n.version n.resources n.zones n.flowgates
   list_passed n h =
-      let p = passed_clear (listed_counts vs) n (first_of (list_grounds (fields_of file) vs)) h in
-      subst (λ (m : Counts). Listed file vs m.resources m.zones m.flowgates) (sym p.1) (listed file vs p.0)
+      let p = passed_clear (listed_counts vs) n (first_of (list_grounds (fields_of file) written_version vs)) h in
+      subst (λ (m : Counts). Listed file vs m.version m.resources m.zones m.flowgates) (sym p.1) (listed file vs p.0)
 
-  pub list_refused : (w : Refusal) → answered (listed_counts vs) (first_of (list_grounds (fields_of file) vs)) ≡ Err w → Err w ≡ answered (listed_counts vs) (first_of (writing_grounds file vs))
-  list_refused w h = sym (ap (answered (listed_counts vs)) (first_earlier (list_grounds (fields_of file) vs) _ w (refused_holds (listed_counts vs) w (first_of (list_grounds (fields_of file) vs)) h)))
+  pub list_refused : (w : Refusal) → answered (listed_counts vs) (first_of (list_grounds (fields_of file) written_version vs)) ≡ Err w → Err w ≡ answered (listed_counts vs) (first_of (writing_grounds file vs))
+  list_refused w h = sym (ap (answered (listed_counts vs)) (first_earlier (list_grounds (fields_of file) written_version vs) _ w (refused_holds (listed_counts vs) w (first_of (list_grounds (fields_of file) written_version vs)) h)))
 
   -- a list past all but 15, with its counts n
-  pub passed : (n : Counts) → first_of (writing_grounds file vs) ≡ clear → n ≡ listed_counts vs → Listed file vs n.resources n.zones n.flowgates
-  passed n h e = subst (λ (m : Counts). Listed file vs m.resources m.zones m.flowgates) (sym e) (listed file vs (earlier_clear (list_grounds (fields_of file) vs) _ h))
+  pub passed : (n : Counts) → first_of (writing_grounds file vs) ≡ clear → n ≡ listed_counts vs → Listed file vs n.version n.resources n.zones n.flowgates
+  passed n h e = subst (λ (m : Counts). Listed file vs m.version m.resources m.zones m.flowgates) (sym e) (listed file vs (earlier_clear (list_grounds (fields_of file) written_version vs) _ h))
 
 -- ---- the case file of a list past 16, 3, 16
--- its counts are the list's first three numbers
-counts_read : (b : List ℕ) → listed_counts (case_numbers b) ≡ counts_in (case_of b)
-unfolding case_as numbers_of numbers_at field_at case_fields
-counts_read b = refl
+-- its version is the one that is written, its counts are the list's first three numbers
+version_written : (v : ℕ) (vs : List ℤ) → u8_at (file_for case_fields v vs) 4 ≡ v
+unfolding file_for file_of
+version_written v vs = refl
 
-pub filed : (vs : List ℤ) → first_of (list_grounds case_fields vs) ≡ clear → answered (counts_in (case_of (case_file vs))) (first_of (case_grounds (case_file vs))) ≡ answered (listed_counts vs) (first_of (writing_grounds Case vs))
+counts_read : (b : List ℕ) → u8_at b 4 ≡ written_version → listed_counts (case_numbers b) ≡ counts_in (case_of b)
+unfolding case_as numbers_of numbers_at field_at case_fields
+counts_read b e = ap (λ (v : ℕ). record { version = version_of v; resources = u8_at b 5; zones = u8_at b 6; flowgates = u8_at b 7 }) (sym e)
+
+pub filed : (vs : List ℤ) → first_of (list_grounds case_fields written_version vs) ≡ clear → answered (counts_in (case_of (case_file vs))) (first_of (case_grounds (case_file vs))) ≡ answered (listed_counts vs) (first_of (writing_grounds Case vs))
 filed vs h =
-    let w = case_filed vs (none_holds (list_grounds case_fields vs) h) in
-    let counts : counts_in (case_of (case_file vs)) ≡ listed_counts vs = sym (counts_read (case_file vs)) ∙ ap listed_counts w.1 in
-    rw (counts, w.0, first_later (list_grounds case_fields vs) (further_grounds Case (case_file vs)) h)
+    let w = case_filed vs (none_holds (list_grounds case_fields written_version vs) h) in
+    let counts : counts_in (case_of (case_file vs)) ≡ listed_counts vs = sym (counts_read (case_file vs) (version_written written_version vs)) ∙ ap listed_counts w.1 in
+    rw (counts, w.0, first_later (list_grounds case_fields written_version vs) (further_grounds Case (case_file vs)) h)

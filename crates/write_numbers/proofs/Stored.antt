@@ -44,16 +44,16 @@ module _ (fs : List Field) (vs : List ℤ) (e : length fs ≡ length vs) (old : 
       let enough : 5 + length stored + length new ≤ length old = omega (arith, many, width_within fs k h, field_length (get_or fs k u8) (get_or vs k (pos 0))) in
       l ∙ rw (place, o) (write_on 5 stored new old enough ∙ ap (λ (b : List ℕ). written 5 b old) (sym (bytes_next fs vs k e h)))
 
-  -- length, version 1 and the fields
-  pub put_all : (size : ℕ) (a b last : List ℕ) → size ≡ 5 + total_of field_width fs
-      → a ≡ written 0 (u32_bytes (size - 4)) old → b ≡ written 4 (1 ∷ []) a → last ≡ written 5 (bytes_of fs vs) b
-      → last ≡ file_of fs vs ++ drop (5 + total_of field_width fs) old
+  -- length, the version v and the fields
+  pub put_all : (v size : ℕ) (a b last : List ℕ) → size ≡ 5 + total_of field_width fs
+      → a ≡ written 0 (u32_bytes (size - 4)) old → b ≡ written 4 (v ∷ []) a → last ≡ written 5 (bytes_of fs vs) b
+      → last ≡ file_of v fs vs ++ drop (5 + total_of field_width fs) old
   unfolding file_of
-  put_all size a b last s ha hb hl =
+  put_all v size a b last s ha hb hl =
       let n : size - 4 ≡ 1 + total_of field_width fs = omega arith in
       let many = bytes_long fs vs e in
       let first = u32_bytes (1 + total_of field_width fs) in
-      let two : b ≡ written 0 (first ++ (1 ∷ [])) old = hb ∙ rw (ha, n) (write_on 0 first (1 ∷ []) old (omega arith)) in
-      let three : last ≡ written 0 ((first ++ (1 ∷ [])) ++ bytes_of fs vs) old = hl ∙ rw two (write_on 0 (first ++ (1 ∷ [])) (bytes_of fs vs) old (omega (arith, many))) in
-      let place : 0 + length ((first ++ (1 ∷ [])) ++ bytes_of fs vs) ≡ 5 + total_of field_width fs = omega (arith, many) in
-      three ∙ ap (λ (m : ℕ). file_of fs vs ++ drop m old) place
+      let two : b ≡ written 0 (first ++ (v ∷ [])) old = hb ∙ rw (ha, n) (write_on 0 first (v ∷ []) old (omega arith)) in
+      let three : last ≡ written 0 ((first ++ (v ∷ [])) ++ bytes_of fs vs) old = hl ∙ rw two (write_on 0 (first ++ (v ∷ [])) (bytes_of fs vs) old (omega (arith, many))) in
+      let place : 0 + length ((first ++ (v ∷ [])) ++ bytes_of fs vs) ≡ 5 + total_of field_width fs = omega (arith, many) in
+      three ∙ ap (λ (m : ℕ). file_of v fs vs ++ drop m old) place

@@ -3,6 +3,8 @@ use Rattle.market.specs.declared.Refusal.{Refusal}
 use Rattle.std.specs.Prelude.{Result, Ok, List, [], ◌∷◌, ◌++◌, ◌≡◌, ℕ, ◌+◌, ◌≤◌, ℤ, length, take, drop}
 use Rattle.arith.specs.Sums.{total_of}
 use Rattle.market.specs.declared.Counts.{Counts}
+use Rattle.market.specs.declared.Version.{Version}
+use Rattle.market.specs.Version.{version_of, written_version}
 use Rattle.market.specs.Refusals.{Finding, answered, first_of, buffer_after}
 use Rattle.market.specs.Outcome.{room}
 use Rattle.market.specs.Numbers.{field_width, count_in, field_grounds, file_for, list_grounds}
@@ -10,17 +12,17 @@ use Rattle.fields.specs.declared.File.{File}
 use Rattle.fields.specs.declared.File.TheVariants.{Case, Certificate}
 use Rattle.fields.specs.Layout.{fields_of}
 
--- R, Z and F of a list
+-- the version that is written, and R, Z and F of a list
 abbrev pub listed_counts : List ℤ → Counts
-listed_counts vs = record { resources = count_in vs 0; zones = count_in vs 1; flowgates = count_in vs 2 }
+listed_counts vs = record { version = version_of written_version; resources = count_in vs 0; zones = count_in vs 1; flowgates = count_in vs 2 }
 
 -- how many bytes a file has: length and version, then its fields
-abbrev pub size_of : File → ℕ → ℕ → ℕ → ℕ
-size_of file r z f = 5 + total_of field_width (fields_of file r z f)
+abbrev pub size_of : File → Version → ℕ → ℕ → ℕ → ℕ
+size_of file version r z f = 5 + total_of field_width (fields_of file version r z f)
 
 -- the file that is to be written
 abbrev pub file_of_list : File → List ℤ → List ℕ
-file_of_list file = file_for (fields_of file)
+file_of_list file = file_for (fields_of file) written_version
 
 -- for a case 5, 6, 7 of that file
 abbrev pub further_grounds : File → List ℕ → List Finding
@@ -29,7 +31,7 @@ further_grounds Certificate b = []
 
 -- 16, 3, 16, and for a case 5, 6, 7
 abbrev pub writing_grounds : File → List ℤ → List Finding
-writing_grounds file vs = list_grounds (fields_of file) vs ++ further_grounds file (file_of_list file vs)
+writing_grounds file vs = list_grounds (fields_of file) written_version vs ++ further_grounds file (file_of_list file vs)
 
 -- and 15, with a lent buffer of n bytes
 abbrev pub grounds_with15 : File → List ℤ → ℕ → List Finding

@@ -4,6 +4,7 @@
 
 ghost use Rattle.std.specs.Prelude.{◌≡◌, true, ◌++◌, ◌+◌, ◌<◌, ◌≤◌, length, drop, get_or, pos};
 ghost use Rattle.std.specs.Int.Signed.{le_z};
+ghost use Rattle.market.specs.Version.{written_version};
 ghost use Rattle.market.specs.Bytes.{within_ℤ};
 ghost use Rattle.market.specs.CaseCheck.{most_resources, CountsWithin, largest_case_size};
 ghost use Rattle.market.specs.Refusals.{answered, clear, first_of};
@@ -15,7 +16,10 @@ ghost use Rattle.write_numbers.specs.Listed.{Fits, Listed};
 ghost use Rattle.write_numbers.specs.Writing.{listed_counts, writing_grounds, write_file, write_file_buffer, ReadBack};
 
 use fields::{Field, File};
-use market::{Counts, Refusal};
+use market::{Counts, Refusal, Version};
+
+// The version of the files that are written: counts and sizes follow from it.
+const WRITTEN_VERSION: u8 = 1;
 
 // ---- the bytes of a file
 // A number into its field; the other bytes stay as they are.
@@ -39,7 +43,7 @@ struct NumberList<'a> {
     file: File,
     numbers: &'a [i64],
     counts: Counts,
-    ghost listed: { Listed file numbers.now counts.resources counts.zones counts.flowgates },
+    ghost listed: { Listed file numbers.now counts.version counts.resources counts.zones counts.flowgates },
 }
 
 impl NumberList<'_> {
@@ -48,7 +52,7 @@ impl NumberList<'_> {
     // How many bytes the file has.
     #[tactic(auto, using(crate::proofs::Handed::file_sizes))]
     fn size(&self) -> usize
-        ensures { (result ≡ size_in self.now) × (result ≤ largest_case_size) }
+        ensures { (result ≡ size_in self.now) × (result ≤ largest_case_size self.now.counts.version) }
     {
         let n = self.counts;
         match self.file {
@@ -70,13 +74,13 @@ impl NumberList<'_> {
         }
     }
 
-    // The file: length, version 1, the numbers; what stands beyond them in the buffer stays.
+    // The file: length, version, the numbers; what stands beyond them in the buffer stays.
     fn put(&self, out: &mut [u8])
         requires { size_in self.now ≤ length out.old }
-        ensures { out.new ≡ file_of (fields_in self.now) self.now.numbers.now ++ drop (size_in self.now) out.old }
+        ensures { out.new ≡ file_of written_version (fields_in self.now) self.now.numbers.now ++ drop (size_in self.now) out.old }
     {
         wire::put_u32(out, 0, self.size() as u32 - 4);
-        wire::put_u8(out, 4, 1);
+        wire::put_u8(out, 4, u32::from(WRITTEN_VERSION));
         self.put_numbers(out);
     }
 }
@@ -107,12 +111,13 @@ fn count_in(v: &[i64], k: usize) -> usize
     v[k] as usize
 }
 
-// R, Z and F that have passed 3.
+// R, Z and F that have passed 3, of the version that is written.
 fn counts_in(v: &[i64]) -> Counts
     requires { (3 ≤ length v.now) × (counts_in_range v.now ≡ true) }
     ensures { result ≡ listed_counts v.now }
 {
     Counts {
+        version: Version::nearest(WRITTEN_VERSION),
         resources: count_in(v, 0),
         zones: count_in(v, 1),
         flowgates: count_in(v, 2),
@@ -121,7 +126,7 @@ fn counts_in(v: &[i64]) -> Counts
 
 fn numbers_fit(file: File, v: &[i64], n: Counts) -> bool
     requires { CountsWithin n.resources n.zones n.flowgates }
-    ensures { result ≡ numbers_fit (fields_of file n.resources n.zones n.flowgates) v.now }
+    ensures { result ≡ numbers_fit (fields_of file n.version n.resources n.zones n.flowgates) v.now }
 {
     let count = file.count(n);
     if v.len() != count {
@@ -132,7 +137,7 @@ fn numbers_fit(file: File, v: &[i64], n: Counts) -> bool
 
 #[tactic(auto, unfolding(market::specs::Numbers::list_grounds, market::specs::Numbers::fields_for, market::specs::Refusals::first_of))]
 fn list_stage(file: File, v: &[i64]) -> Result<Counts, Refusal>
-    ensures { result ≡ answered (listed_counts v.now) (first_of (list_grounds (fields_of file) v.now)) }
+    ensures { result ≡ answered (listed_counts v.now) (first_of (list_grounds (fields_of file) written_version v.now)) }
 {
     if v.len() < 3 {
         return Err(Refusal::NumberList);

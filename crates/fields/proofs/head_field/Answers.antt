@@ -3,4 +3,4 @@ use Rattle.fields.proofs.Tables.{table_entry}
 use Rattle.fields.proofs.head_field.Goals as goal
 
 pub returns : goal.returns
-returns c = table_entry head_fields c.args.k
+returns c = table_entry (head_fields c.args.version) c.args.k

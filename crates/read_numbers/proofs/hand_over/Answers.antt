@@ -15,7 +15,7 @@ read_numbers-requires c = let e = c.count-count.ensures in (passed c.args.file c
 pub overflow_cast-result : goal.overflow_cast-result
 overflow_cast-result c =
     let e = c.count-count.ensures in
-    let m = count_small c.args.file (passed c.args.file c.args.b.now c.args.n c.requires.0 c.requires.1).counts in
+    let m = count_small c.args.file c.args.n.version (passed c.args.file c.args.b.now c.args.n c.requires.0 c.requires.1).counts in
     omega arith
 
 pub returns : goal.returns

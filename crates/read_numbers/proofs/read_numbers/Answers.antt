@@ -15,7 +15,7 @@ use Rattle.read_numbers.proofs.read_numbers.Goals as goal
 use Rattle.read_numbers.proofs.read_numbers.Goals.{After-field_at-field}
 
 abbrev fields : After-field_at-field → List Field
-fields c = fields_of c.args.file c.args.n.resources c.args.n.zones c.args.n.flowgates
+fields c = fields_of c.args.file c.args.n.version c.args.n.resources c.args.n.zones c.args.n.flowgates
 
 -- the field that the loop has reached
 inside : (c : After-field_at-field) → c.loop-k.k < length (fields c)

@@ -1,13 +1,6 @@
 use mathlib.Core.Path.{◌≡◌, sym, ap, ◌∙◌}
-use mathlib.Core.List.{List, ◌++◌}
-use lib.ListN.{length, drop, take, replicate, length-replicate}
-use Rattle.market.specs.Numbers.{file_of}
-use Rattle.fields.specs.Layout.{fields_of}
-use Rattle.write_numbers.specs.Writing.{size_of}
-use Prim.Native.Nat.{ℕ, ◌≤◌}
-use lib.Seq.{length-take-le}
-use Rattle.market.specs.CaseCheck.{largest_case_size}
-use native.Mathlib.Omega.{arith}
+use mathlib.Core.List.{List}
+use Prim.Native.Nat.{ℕ}
 use Rattle.market.specs.CaseFile.{case_of}
 use Rattle.market.specs.Records.{counts_in}
 use Rattle.market.specs.Refusals.{answered, first_of}
@@ -34,11 +27,7 @@ returns c =
     let v = c.args.v.now in
     let n = c.in_ok-counts.counts in
     let p = list_passed Case v n (sym c.list_stage.ensures ∙ c.in_ok-counts.was) in
-    let size = size_of Case n.resources n.zones n.flowgates in
-    let zeros : List ℕ = replicate largest_case_size 0 in
-    let old = take c.size.result zeros in
-    let l : length old ≤ size = let e = c.size.ensures in omega (arith, e.0, e.1, length-take-le c.size.result zeros (omega (arith, e.1, length-replicate {A = ℕ} largest_case_size 0))) in
-    let k : c.put.new.out ≡ file_of (fields_of Case n.resources n.zones n.flowgates) v ++ drop size old = c.put.ensures in
+    let file = rw (← c.size.ensures.0) at c.put.ensures in
     c.case_stage.ensures
-    ∙ ap (λ (x : List ℕ). answered (counts_in (case_of x)) (first_of (case_grounds x))) (file_whole Case v n.resources n.zones n.flowgates p size old c.put.new.out l k)
+    ∙ ap (λ (x : List ℕ). answered (counts_in (case_of x)) (first_of (case_grounds x))) (file_whole Case v n.version n.resources n.zones n.flowgates p c.size.result _ c.put.new.out file)
     ∙ filed v p.none_holds

@@ -14,7 +14,7 @@ returns-then-v-count c = let e = c.count-count.ensures in length_differs _ c.arg
 pub returns : goal.returns
 returns c =
     let n = c.args.n in
-    let fs : List Field = fields_of c.args.file n.resources n.zones n.flowgates in
+    let fs : List Field = fields_of c.args.file n.version n.resources n.zones n.flowgates in
     let e = c.count-count.ensures in
     let same = sym e ∙ sym c.if-v-count.false in
     rw (← (fit_whole fs c.args.v.now same), ← e) (all_upto (fits_at fs c.args.v.now same) _ refl c.all.ensures.ran (λ k b q h. search rules))

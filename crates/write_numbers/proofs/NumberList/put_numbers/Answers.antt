@@ -19,7 +19,7 @@ use Rattle.write_numbers.proofs.NumberList.put_numbers.Goals as goal
 use Rattle.write_numbers.proofs.NumberList.put_numbers.Goals.{After-field_at-field}
 
 abbrev fields : After-field_at-field → List Field
-fields c = fields_of c.args.self.now.file c.args.self.now.counts.resources c.args.self.now.counts.zones c.args.self.now.counts.flowgates
+fields c = fields_of c.args.self.now.file c.args.self.now.counts.version c.args.self.now.counts.resources c.args.self.now.counts.zones c.args.self.now.counts.flowgates
 
 same : (c : After-field_at-field) → length (fields c) ≡ length c.args.self.now.numbers.now
 same c = fit_length (fields c) c.args.self.now.numbers.now c.args.self.now.listed.fit
@@ -66,6 +66,6 @@ loop-k-preserved c =
 pub returns : goal.returns
 returns c =
     let n = c.args.self.now.counts in
-    let fs = fields_of c.args.self.now.file n.resources n.zones n.flowgates in
+    let fs = fields_of c.args.self.now.file n.version n.resources n.zones n.flowgates in
     let e : length fs ≡ length c.args.self.now.numbers.now = fit_length fs c.args.self.now.numbers.now c.args.self.now.listed.fit in
     c.loop-k.invariant.stored ∙ ap (λ (x : List ℕ). written 5 x c.args.out.now) (bytes_whole fs c.args.self.now.numbers.now c.loop-k.k e (omega arith))
