@@ -3,9 +3,10 @@
 #![tactic(auto)]
 
 ghost use Rattle.std.specs.Prelude.{◌≡◌, ◌≤◌, length, IfOk};
-ghost use Rattle.market.specs.CaseCheck.{most_resources};
+ghost use Rattle.market.specs.CaseCheck.{most_resources, CountsWithin};
 ghost use Rattle.market.specs.CaseFile.{case_of};
 ghost use Rattle.market.specs.Certificate.{certificate_of};
+ghost use Rattle.market.specs.Charges.{charge_count_of};
 ghost use Rattle.market.specs.Records.{counts_in};
 ghost use Rattle.market.specs.Refusals.{first_of};
 ghost use Rattle.market.specs.Outcome.{grounds, valuation, room, price_answer, price_buffer, charge_answer, charge_buffer};
@@ -17,9 +18,7 @@ ghost use Rattle.outcomes.specs.Checked.{Checked};
 ghost use Rattle.prices.specs.PricedCase.{case_bytes, certificate_bytes};
 
 use capabilities::{Capability, KeptCase, UNDECIDED};
-use market::{
-    Counts, RESOURCE_CHARGES, Refusal, SYSTEM_CHARGES, Valuation, ZONE_PRICES, ZONE_ROWS,
-};
+use market::{Counts, Refusal, Valuation, ZONE_PRICES, ZONE_ROWS};
 use prices::{BoundedCase, PricedCase};
 
 // A case and a certificate of these counts that are past 13, with what is kept of the case's resources.
@@ -96,17 +95,26 @@ pub fn deliver_prices(b: &[u8], q: &[u8], out: &mut [i64]) -> Result<(), Refusal
     Ok(())
 }
 
+// How many charges a case of these counts has: one for each row, and one for all that is priced.
+fn charge_count(n: Counts) -> usize
+    requires { CountsWithin n.resources n.zones n.flowgates }
+    ensures { result ≡ charge_count_of n.version n.resources n.zones n.flowgates }
+{
+    let version = n.version;
+    let rows = version.system_rows()
+        + n.zones * ZONE_ROWS
+        + n.flowgates
+        + n.resources * version.resource_rows();
+    rows + n.resources * version.resource_priced() + version.curve_priced()
+}
+
 // Writes the charges, in charge order: 1 to 14, then 15.
 pub fn deliver_charges(b: &[u8], q: &[u8], out: &mut [i64]) -> Result<(), Refusal>
     ensures { (result ≡ charge_answer b.now q.now (length out.old)) × (out.new ≡ charge_buffer b.now q.now out.old) }
 {
     let mut kept = UNDECIDED;
     let n = rows_stage(b, q, &mut kept)?;
-    let own = RESOURCE_CHARGES * n.resources;
-    room(
-        SYSTEM_CHARGES + ZONE_ROWS * n.zones + n.flowgates + own,
-        out.len(),
-    )?;
+    room(charge_count(n), out.len())?;
     charges::write_charges(&kept_case(b, q, n, &kept), out);
     Ok(())
 }
