@@ -1,9 +1,10 @@
-/* Prints what the headers say, for tests/library/run to compare.
+/* Prints what the headers say, for tests/library/run to compare. It is built as C and as C++.
  *
- *   sizes R Z F     the sizes of a case with these counts, on one line: bytes of case and certificate, numbers of both, rows,
- *                   prices, charges
- *   sizes most      the same of the largest case
- *   sizes refusals  a line for each number from 0 to one past the last refusal: the number, its text, its advice
+ *   sizes VERSION R Z F   the sizes of files of this version with these counts, on one line: bytes of case and certificate, numbers
+ *                         of both, rows, prices, charges
+ *   sizes most            the same of the largest case
+ *   sizes newest          the newest version of files
+ *   sizes refusals        a line for each number from 0 to one past the last refusal: the number, its text, its advice
  */
 #include <nostwier.h>
 #include <nostwier_refusals.h>
@@ -15,17 +16,33 @@
 /* The sizes of the largest case are constants, good for arrays. */
 static int64_t room[NOSTWIER_MOST_CHARGES + NOSTWIER_MOST_PRICES];
 
+/* So is each size whose arguments are: 0 before the first version and after the newest one, above 0 in the newest. */
+#define AFTER (NOSTWIER_NEWEST_FILE_VERSION + 1)
+#define BY_VERSION(name, size) \
+    typedef char name##_before[size(0, 1, 1, 0) == 0 ? 1 : -1]; \
+    typedef char name##_after[size(AFTER, 1, 1, 0) == 0 ? 1 : -1]; \
+    typedef char name##_newest[size(NOSTWIER_NEWEST_FILE_VERSION, 1, 1, 0)]
+BY_VERSION(case_bytes, NOSTWIER_CASE_BYTES);
+BY_VERSION(certificate_bytes, NOSTWIER_CERTIFICATE_BYTES);
+BY_VERSION(case_numbers, NOSTWIER_CASE_NUMBERS);
+BY_VERSION(certificate_numbers, NOSTWIER_CERTIFICATE_NUMBERS);
+BY_VERSION(rows, NOSTWIER_ROWS);
+BY_VERSION(charges, NOSTWIER_CHARGES);
+
 int main(int argc, char **argv)
 {
-    if (argc == 4) {
-        int r = atoi(argv[1]), z = atoi(argv[2]), f = atoi(argv[3]);
-        printf("%zu %zu %zu %zu %zu %zu %zu\n", NOSTWIER_CASE_BYTES(r, z, f), NOSTWIER_CERTIFICATE_BYTES(r, z, f),
-               NOSTWIER_CASE_NUMBERS(r, z, f), NOSTWIER_CERTIFICATE_NUMBERS(r, z, f), NOSTWIER_ROWS(r, z, f),
-               NOSTWIER_PRICES(r, z), NOSTWIER_CHARGES(r, z, f));
+    if (argc == 5) {
+        int version = atoi(argv[1]), r = atoi(argv[2]), z = atoi(argv[3]), f = atoi(argv[4]);
+        printf("%zu %zu %zu %zu %zu %zu %zu\n", NOSTWIER_CASE_BYTES(version, r, z, f),
+               NOSTWIER_CERTIFICATE_BYTES(version, r, z, f), NOSTWIER_CASE_NUMBERS(version, r, z, f),
+               NOSTWIER_CERTIFICATE_NUMBERS(version, r, z, f), NOSTWIER_ROWS(version, r, z, f), NOSTWIER_PRICES(r, z),
+               NOSTWIER_CHARGES(version, r, z, f));
     } else if (argc == 2 && strcmp(argv[1], "most") == 0) {
         printf("%zu %zu %zu %zu %zu %zu %zu\n", NOSTWIER_MOST_CASE_BYTES, NOSTWIER_MOST_CERTIFICATE_BYTES,
                NOSTWIER_MOST_CASE_NUMBERS, NOSTWIER_MOST_CERTIFICATE_NUMBERS, NOSTWIER_OF_MOST(NOSTWIER_ROWS),
                NOSTWIER_MOST_PRICES, sizeof room / sizeof *room - NOSTWIER_MOST_PRICES);
+    } else if (argc == 2 && strcmp(argv[1], "newest") == 0) {
+        printf("%d\n", NOSTWIER_NEWEST_FILE_VERSION);
     } else if (argc == 2 && strcmp(argv[1], "refusals") == 0) {
         for (uint32_t number = 0; number <= NOSTWIER_REFUSALS + 1; number++)
             printf("%u\t%s\t%s\n", (unsigned)number, nostwier_refusal_text(number), nostwier_refusal_advice(number));
