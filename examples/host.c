@@ -34,10 +34,10 @@ static void take_file(struct file *to, const char *path)
     fclose(from);
 }
 
-/* ---- What rows, quantities and charges are called. All are counted from 0 here; these are the lists of version 1. */
+/* ---- What rows, quantities and charges of version 1 are called. All are counted from 0 here. */
 
-struct counts {
-    unsigned version;
+struct head { /* of a case, its bytes 4 to 7 */
+    uint8_t version;
     size_t resources, zones, flowgates;
 };
 
@@ -59,7 +59,7 @@ struct label {
     char text[80];
 };
 
-static struct label row_label(struct counts n, size_t row)
+static struct label row_label(struct head n, size_t row)
 {
     struct label label;
     size_t zones = 1 + CURVES, flowgates = zones + CURVES * n.zones, resources = flowgates + n.flowgates;
@@ -89,7 +89,7 @@ static struct label quantity_label(size_t quantity)
     return label;
 }
 
-static struct label charge_label(struct counts n, size_t charge)
+static struct label charge_label(struct head n, size_t charge)
 {
     struct label label;
     size_t rows = NOSTWIER_ROWS(n.version, n.resources, n.zones, n.flowgates), steps = rows + OF_RESOURCE * n.resources;
@@ -141,7 +141,7 @@ static int larger_first(const void *left, const void *right)
     return a < b ? -1 : a > b;
 }
 
-static void print_charges(struct counts n, size_t most)
+static void print_charges(struct head n, size_t most)
 {
     static size_t order[NOSTWIER_MOST_CHARGES];
     size_t count = 0;
@@ -158,7 +158,7 @@ static void print_charges(struct counts n, size_t most)
 /* ---- The host. */
 
 /* Says why a pair was refused, and what to do; ends the program. */
-static void refused(struct counts n, uint32_t refusal, uint32_t place)
+static void refused(struct head n, uint32_t refusal, uint32_t place)
 {
     printf("refused %" PRIu32, refusal);
     if (place > 0)
@@ -184,7 +184,7 @@ int main(int argc, char **argv)
     take_file(&q, argv[2]);
 
     /* Version and counts are there to be relied on once the case is valid, so in refusals 13 and 14 too. */
-    struct counts n = {c.bytes[4], c.bytes[5], c.bytes[6], c.bytes[7]};
+    struct head n = {c.bytes[4], c.bytes[5], c.bytes[6], c.bytes[7]};
     nostwier_result result = nostwier_check_certificate(c.bytes, c.length, q.bytes, q.length);
     if (result.refusal != NOSTWIER_ACCEPTED)
         refused(n, result.refusal, result.place);

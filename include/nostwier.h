@@ -31,44 +31,34 @@
  * one dollar of a five-minute interval. */
 #define NOSTWIER_GRAINS_PER_DOLLAR INT64_C(1200000000)
 
-/* ---- Versions of the two files. A file holds its version as its byte 4, counted from 0. Those from 1 to the newest are
- * known; a file of any other is refused, by 2 or 9. No size of a known version is above that of the largest one. */
-#define NOSTWIER_NEWEST_FILE_VERSION 1
-#define NOSTWIER_LARGEST_FILE_VERSION 1
-
-/* 1 for a known version from 'first' on, 0 for all others: the factor of what a size has from that version on. */
-#define NOSTWIER_SINCE(first, version) ((size_t)((version) >= (first) && (version) <= NOSTWIER_NEWEST_FILE_VERSION))
-
-/* ---- Sizes, of files of a version with r resources, z zones and f flowgates. A file holds the four as its bytes 4 to 7,
+/* ---- Sizes, of files of a version with r resources, z zones and f flowgates. A file holds these four as its bytes 4 to 7,
  * counted from 0; they are to be relied on once the file is accepted. Each size is a constant where its arguments are, and 0 for
- * a version that is not known: so a host sees that a newer library than its header has accepted a file. An argument may be
- * evaluated more than once. */
+ * a version that this header does not know, which a newer library may accept. An argument may be evaluated more than once. */
 #define NOSTWIER_MOST_RESOURCES 64
 #define NOSTWIER_MOST_ZONES 8
 #define NOSTWIER_MOST_FLOWGATES 12
 
 /* Bytes of the two files. */
 #define NOSTWIER_CASE_BYTES(version, r, z, f) \
-    (NOSTWIER_SINCE(1, version) * (170 + 16 * (size_t)(z) + 154 * (size_t)(r) + (size_t)(f) * (4 + 2 * (size_t)(r))))
+    ((version) == 1 ? 170 + 16 * (size_t)(z) + 154 * (size_t)(r) + (size_t)(f) * (4 + 2 * (size_t)(r)) : 0)
 #define NOSTWIER_CERTIFICATE_BYTES(version, r, z, f) \
-    (NOSTWIER_SINCE(1, version) * (44 + 16 * (size_t)(z) + 4 * (size_t)(f) + 40 * (size_t)(r)))
+    ((version) == 1 ? 44 + 16 * (size_t)(z) + 4 * (size_t)(f) + 40 * (size_t)(r) : 0)
 
 /* Numbers that are read out of the files, and written into them: every field but length and version. */
 #define NOSTWIER_CASE_NUMBERS(version, r, z, f) \
-    (NOSTWIER_SINCE(1, version) * (48 + 4 * (size_t)(z) + 43 * (size_t)(r) + (size_t)(f) * (1 + (size_t)(r))))
+    ((version) == 1 ? 48 + 4 * (size_t)(z) + 43 * (size_t)(r) + (size_t)(f) * (1 + (size_t)(r)) : 0)
 #define NOSTWIER_CERTIFICATE_NUMBERS(version, r, z, f) \
-    (NOSTWIER_SINCE(1, version) * (12 + 4 * (size_t)(z) + (size_t)(f) + 10 * (size_t)(r)))
+    ((version) == 1 ? 12 + 4 * (size_t)(z) + (size_t)(f) + 10 * (size_t)(r) : 0)
 
 /* Rows of the case, and the numbers that the calls for prices and charges write. Prices are as many in every version. */
 #define NOSTWIER_ROWS(version, r, z, f) \
-    (NOSTWIER_SINCE(1, version) * (5 + 4 * (size_t)(z) + (size_t)(f) + 5 * (size_t)(r)))
+    ((version) == 1 ? 5 + 4 * (size_t)(z) + (size_t)(f) + 5 * (size_t)(r) : 0)
 #define NOSTWIER_PRICES(r, z) ((size_t)(r) + 4 * (size_t)(z))
 #define NOSTWIER_CHARGES(version, r, z, f) \
-    (NOSTWIER_SINCE(1, version) * (21 + 4 * (size_t)(z) + (size_t)(f) + 19 * (size_t)(r)))
+    ((version) == 1 ? 21 + 4 * (size_t)(z) + (size_t)(f) + 19 * (size_t)(r) : 0)
 
-/* The same of the largest case: buffers of these sizes are long enough for any, of every known version. */
-#define NOSTWIER_OF_MOST(size) \
-    size(NOSTWIER_LARGEST_FILE_VERSION, NOSTWIER_MOST_RESOURCES, NOSTWIER_MOST_ZONES, NOSTWIER_MOST_FLOWGATES)
+/* The same of the largest case: buffers of these sizes are long enough for any. */
+#define NOSTWIER_OF_MOST(size) size(1, NOSTWIER_MOST_RESOURCES, NOSTWIER_MOST_ZONES, NOSTWIER_MOST_FLOWGATES)
 #define NOSTWIER_MOST_CASE_BYTES NOSTWIER_OF_MOST(NOSTWIER_CASE_BYTES)
 #define NOSTWIER_MOST_CERTIFICATE_BYTES NOSTWIER_OF_MOST(NOSTWIER_CERTIFICATE_BYTES)
 #define NOSTWIER_MOST_CASE_NUMBERS NOSTWIER_OF_MOST(NOSTWIER_CASE_NUMBERS)

@@ -119,7 +119,7 @@ def _list(name, case, certificate, size):
     room = (ctypes.c_int64 * size)()
     answer = library.function(name)(files[0], len(files[0]), files[1], len(files[1]), room, len(room))
     _look(answer, *files, _names(case, None))
-    return files[0], room[:]
+    return files[0], room
 
 
 def _read(name, given, size, is_case):

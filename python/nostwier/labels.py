@@ -2,7 +2,7 @@
 
 from typing import List, NamedTuple
 
-from .layout import CURVE_STEPS, CURVES, ENERGY_STEPS, FILE_VERSIONS, QUANTITIES, RESOURCE_ROWS, Counts, standing
+from .layout import CURVE_STEPS, CURVES, ENERGY_STEPS, FILE_VERSIONS, QUANTITIES, RESOURCE_ROWS, Counts, of_version
 
 
 class Names(NamedTuple):
@@ -23,7 +23,7 @@ def row_labels(counts: Counts, names: Names = Names(), version: int = 1) -> List
     """Each row in words, row 1 first; none if the version is not known."""
     if version not in FILE_VERSIONS:
         return []
-    curves, limits = standing(CURVES, version), standing(RESOURCE_ROWS, version)
+    curves, limits = of_version(CURVES, version), of_version(RESOURCE_ROWS, version)
     labels = ["energy equals demand"] + [f"market-wide {curve.words} reserve" for curve in curves]
     labels += [f"{names.of('zone', z)}: {curve.words} reserve" for z in _from_1(counts.zones) for curve in curves]
     labels += [names.of("flowgate", f) for f in _from_1(counts.flowgates)]
@@ -32,9 +32,9 @@ def row_labels(counts: Counts, names: Names = Names(), version: int = 1) -> List
 
 def quantity_labels(counts: Counts, names: Names = Names(), version: int = 1) -> List[str]:
     """Each quantity of a certificate in words, place 1 first; none if the version is not known."""
-    labels = [f"cleared {curve.words} reserve" for curve in standing(CURVES, version)]
+    labels = [f"cleared {curve.words} reserve" for curve in of_version(CURVES, version)]
     return labels + [f"{names.of('resource', r)}: {quantity.words}" for r in _from_1(counts.resources)
-                     for quantity in standing(QUANTITIES, version)]
+                     for quantity in of_version(QUANTITIES, version)]
 
 
 def charge_labels(counts: Counts, names: Names = Names(), version: int = 1) -> List[str]:
@@ -43,9 +43,9 @@ def charge_labels(counts: Counts, names: Names = Names(), version: int = 1) -> L
         return []
     labels = [f"row {number}, {label}" for number, label in enumerate(row_labels(counts, names, version), 1)]
     parts = [f"energy step {step}" for step in _from_1(ENERGY_STEPS)]  # which stand for energy
-    parts += [quantity.words for quantity in standing(QUANTITIES, version) if quantity.key != "e"]
+    parts += [quantity.words for quantity in of_version(QUANTITIES, version) if quantity.key != "e"]
     labels += [f"{names.of('resource', r)}: {part}" for r in _from_1(counts.resources) for part in parts]
-    return labels + [f"{curve.words} curve: step {step}" for curve in standing(CURVES, version) for step in _from_1(CURVE_STEPS)]
+    return labels + [f"{curve.words} curve: step {step}" for curve in of_version(CURVES, version) for step in _from_1(CURVE_STEPS)]
 
 
 class Charge(NamedTuple):

@@ -1,8 +1,7 @@
 """What stands in the two files, field by field, and how much there is of it, by version.
 
-A field, curve, quantity or row stands in the files of the versions from its 'since' to its 'until': there is told what a later
-version adds to the files or leaves out. The library judges the numbers; ends and units of ranges serve to name the field that
-it refuses.
+Each line of the tables says of which versions it is; their order is the file's. The library judges the numbers; ends and units
+of ranges serve to name the field that it refuses.
 """
 
 import re
@@ -10,38 +9,35 @@ import struct
 from functools import lru_cache
 from typing import Any, Dict, List, NamedTuple, Optional, Sequence, Tuple, TypeVar, Union
 
-NEWEST_FILE_VERSION = 1
-FILE_VERSIONS = range(1, NEWEST_FILE_VERSION + 1)  # those that are known
+FILE_VERSIONS: Tuple[int, ...] = (1,)  # those that are known
 
 
 class Listed(NamedTuple):
-    """A curve, a quantity or a row of a resource: its name in records, and in words."""
+    """A curve, a quantity or a row of a resource: its name in records, and in words; of all versions, if it does not say."""
 
     key: str
     words: str
-    since: int = 1
-    until: int = NEWEST_FILE_VERSION
+    versions: Tuple[int, ...] = FILE_VERSIONS
 
 
 class Entry(NamedTuple):
     """A field of a part of a file: its path in the part's record (with '[]' at its end, one for each resource), its type as struct
-    has it, the ends and the unit of its range."""
+    has it, the ends and the unit of its range; of all versions, if it does not say."""
 
     path: str
     letter: str
     least: int
     most: Optional[int]  # None: the number of zones
     unit: str = ""
-    since: int = 1
-    until: int = NEWEST_FILE_VERSION
+    versions: Tuple[int, ...] = FILE_VERSIONS
 
 
-Standing = TypeVar("Standing", Listed, Entry)
+Line = TypeVar("Line", Listed, Entry)
 
 
-def standing(entries: Sequence[Standing], version: int) -> List[Standing]:
-    """Those of a list that stand in files of a version; none if it is not known."""
-    return [entry for entry in entries if entry.since <= version <= entry.until]
+def of_version(table: Sequence[Line], version: int) -> List[Line]:
+    """The lines of a table that are of a version; none if it is not known."""
+    return [line for line in table if version in line.versions]
 
 
 # ---- What there is of each kind, in the order of the files, of places, rows and charges.
@@ -86,17 +82,17 @@ class Part(NamedTuple):
     entries: Tuple[Entry, ...]
 
 
-def _steps(path, count, most_width, least_price, since=1, until=NEWEST_FILE_VERSION):
+def _steps(path, count, most_width, least_price, versions=FILE_VERSIONS):
     """Width and price of each step. The price of an energy offer may be negative, and is signed."""
     price = "i" if least_price < 0 else "I"
     return [entry for step in range(count) for entry in (
-        Entry(f"{path}[{step}].width", "I", 0, most_width, KW, since, until),
-        Entry(f"{path}[{step}].price", price, least_price, OFFER_PRICE, CENTS, since, until))]
+        Entry(f"{path}[{step}].width", "I", 0, most_width, KW, versions),
+        Entry(f"{path}[{step}].price", price, least_price, OFFER_PRICE, CENTS, versions))]
 
 
 def _by_curve(path, most, unit):
     """A number for each curve."""
-    return [Entry(f"{path}{curve.key}", "I", 0, most, unit, curve.since, curve.until) for curve in CURVES]
+    return [Entry(f"{path}{curve.key}", "I", 0, most, unit, curve.versions) for curve in CURVES]
 
 
 _PAIRED, _SHARED = ("contingency", "regulating", "short_term"), ("regulating", "contingency", "short_term")
@@ -109,7 +105,7 @@ _CASE = (
         *[Entry(f"reserves.{reserve}.share", "H", 0, 1000, THOUSANDTHS) for reserve in _SHARED],
         *[Entry(f"reserves.{reserve}.requirement", "I", 0, MARKET_POWER, KW) for reserve in _SHARED],
         *[entry for curve in CURVES
-          for entry in _steps(f"curves.{curve.key}", CURVE_STEPS, MARKET_POWER, 0, curve.since, curve.until)],
+          for entry in _steps(f"curves.{curve.key}", CURVE_STEPS, MARKET_POWER, 0, curve.versions)],
     )),
     Part("zones", "zones", tuple(_by_curve("", POWER, KW))),
     Part("resources", "resources", (
@@ -154,8 +150,8 @@ _CERTIFICATE = (
     Part("row_prices.zones", "zones", tuple(_by_curve("", ROW_PRICE, THOUSANDTHS_OF_A_CENT))),
     Part("row_prices.flowgates", "flowgates", (Entry("", "I", 0, OFFER_PRICE, CENTS),)),
     Part("resources", "resources", (
-        *[Entry(quantity.key, "I", 0, U32, KW, quantity.since, quantity.until) for quantity in QUANTITIES],
-        *[Entry(f"row_prices.{row.key}", "I", 0, ROW_PRICE, THOUSANDTHS_OF_A_CENT, row.since, row.until) for row in RESOURCE_ROWS],
+        *[Entry(quantity.key, "I", 0, U32, KW, quantity.versions) for quantity in QUANTITIES],
+        *[Entry(f"row_prices.{row.key}", "I", 0, ROW_PRICE, THOUSANDTHS_OF_A_CENT, row.versions) for row in RESOURCE_ROWS],
     )),
 )
 PARTS = {"case": _CASE, "certificate": _CERTIFICATE}
@@ -165,14 +161,13 @@ PARTS = {"case": _CASE, "certificate": _CERTIFICATE}
 
 
 class Sizes(NamedTuple):
-    """How much there is in files of a version: bytes and numbers (fields but length and version) of both, quantities, rows, each
-    with its shadow price, and charges."""
+    """How much there is in files of a version: bytes and numbers (fields but length and version) of both, rows, each with its
+    shadow price, and charges."""
 
     case_bytes: int
     certificate_bytes: int
     case_numbers: int
     certificate_numbers: int
-    quantities: int
     rows: int
     charges: int
 
@@ -191,41 +186,41 @@ class Counts(NamedTuple):
             raise ValueError("a file of under 8 bytes announces no counts")
         return cls(*file[5:8])
 
-    def sizes(self, version: int = 1) -> Sizes:
+    def sizes(self, version: int) -> Sizes:
         """The sizes in files of a version, which a file has as its byte 4; each is 0 if the version is not known."""
         if version not in FILE_VERSIONS:
             return Sizes(*[0] * len(Sizes._fields))
         case, certificate = letters("case", self, version), letters("certificate", self, version)
-        curves, quantities, limits = (len(standing(entries, version)) for entries in (CURVES, QUANTITIES, RESOURCE_ROWS))
+        curves, quantities, limits = (len(of_version(entries, version)) for entries in (CURVES, QUANTITIES, RESOURCE_ROWS))
         rows = 1 + curves + curves * self.zones + self.flowgates + limits * self.resources
         of_resource = ENERGY_STEPS + quantities - 1  # the steps stand for energy
         return Sizes(struct.calcsize(START + case), struct.calcsize(START + certificate), len(case), len(certificate),
-                     curves + quantities * self.resources, rows, rows + of_resource * self.resources + CURVE_STEPS * curves)
+                     rows, rows + of_resource * self.resources + CURVE_STEPS * curves)
 
     @property
     def case_bytes(self) -> int:
         """Bytes of a case of version 1."""
-        return self.sizes().case_bytes
+        return self.sizes(1).case_bytes
 
     @property
     def certificate_bytes(self) -> int:
         """Bytes of a certificate of version 1."""
-        return self.sizes().certificate_bytes
+        return self.sizes(1).certificate_bytes
 
     @property
     def case_numbers(self) -> int:
         """Numbers of a case of version 1: its fields but length and version."""
-        return self.sizes().case_numbers
+        return self.sizes(1).case_numbers
 
     @property
     def certificate_numbers(self) -> int:
         """Numbers of a certificate of version 1."""
-        return self.sizes().certificate_numbers
+        return self.sizes(1).certificate_numbers
 
     @property
     def rows(self) -> int:
         """Rows in version 1, each with its shadow price."""
-        return self.sizes().rows
+        return self.sizes(1).rows
 
     @property
     def prices(self) -> int:
@@ -235,18 +230,18 @@ class Counts(NamedTuple):
     @property
     def charges(self) -> int:
         """Charges that the call for charges writes in version 1."""
-        return self.sizes().charges
+        return self.sizes(1).charges
 
 
 START = ">5x"  # big-endian; length and version are passed over
 
 
-@lru_cache(maxsize=64)
+@lru_cache(maxsize=16)
 def letters(file: str, counts: Counts, version: int) -> str:
     """The type of each field of a file ('case' or 'certificate') but length and version, as struct has it."""
     text = "BBB"
     for part in PARTS[file]:
-        of_one = "".join(entry.letter * _times(entry, counts) for entry in standing(part.entries, version))
+        of_one = "".join(entry.letter * _times(entry, counts) for entry in of_version(part.entries, version))
         text += of_one * (getattr(counts, part.of) if part.of else 1)
     return text
 
@@ -280,14 +275,14 @@ def path_of(where: str) -> Path:
     return tuple(int(word) if word.isdecimal() else word for word in re.findall(r"\w+", where))
 
 
-@lru_cache(maxsize=64)
+@lru_cache(maxsize=16)
 def places(file: str, counts: Counts, version: int) -> List[Place]:
     """Each field behind the counts, in the order of the file; none if the version is not known."""
     found = []
     for part in PARTS[file]:
         for item in range(getattr(counts, part.of) if part.of else 1):
             start = f"{part.path}[{item}]" if part.of else ""
-            for entry in standing(part.entries, version):
+            for entry in of_version(part.entries, version):
                 name = ".".join(filter(None, (start, entry.path)))
                 most = counts.zones if entry.most is None else entry.most
                 for number in range(_times(entry, counts)):
@@ -296,7 +291,7 @@ def places(file: str, counts: Counts, version: int) -> List[Place]:
     return found
 
 
-@lru_cache(maxsize=64)
+@lru_cache(maxsize=16)
 def shape(file: str, counts: Counts, version: int) -> Dict[str, Any]:
     """Which number of a file each field behind the counts is, from 0: in dictionaries and lists, by the paths of the fields."""
     whole: Dict[str, Any] = {}

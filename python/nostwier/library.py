@@ -5,8 +5,6 @@ import ctypes.util
 import os
 from pathlib import Path
 
-from .layout import LEAST, MOST, Counts  # the sizes of what is lent to these functions
-
 VERSION = "1.4.0"  # NOSTWIER_VERSION of nostwier.h
 VARIABLE = "NOSTWIER_LIBRARY"
 SONAME = "libnostwier.so.1"

@@ -9,7 +9,7 @@ from typing import Optional
 from . import model
 from .enums import Kind
 from .labels import Names, quantity_labels, row_labels
-from .layout import CURVES, POWER, QUANTITIES, Counts, standing
+from .layout import CURVES, FILE_VERSIONS, POWER, QUANTITIES, Counts, of_version
 from .refusals import Refused
 
 TWO_31, TWO_32 = 2**31, 2**32
@@ -49,7 +49,7 @@ def _of_files(number, place, case, certificate, names):
         return _of_fields(number, Certificate.unjudged(certificate), names)
     if number in (13, 14):
         read = Case.unjudged(case), Certificate.unjudged(certificate)
-        if (read[0].counts, read[0].version) == (read[1].counts, read[1].version):
+        if read[0].counts == read[1].counts:
             return (_of_quantity if number == 13 else _of_row)(place, *read, names)
     return Refused(number, place)
 
@@ -62,11 +62,13 @@ def _announced(file):
 
 
 def looks_like(file: Optional[bytes]) -> str:
-    """'case' or 'certificate' if a file has the form of one, else ''."""
+    """'case' or 'certificate' if a file has the form of one in some version, whatever its own is, else ''."""
     if file is None or len(file) < 8 or _announced(file) != len(file):
         return ""
-    sizes = Counts.of_file(file).sizes(file[4])
-    return {sizes.case_bytes: "case", sizes.certificate_bytes: "certificate"}.get(len(file), "")
+    forms = {}
+    for sizes in map(Counts.of_file(file).sizes, FILE_VERSIONS):
+        forms.update({sizes.case_bytes: "case", sizes.certificate_bytes: "certificate"})
+    return forms.get(len(file), "")
 
 
 def _of_form(number, file, other, is_case):
@@ -118,7 +120,7 @@ def _of_fields(number, record, names):
             if not entry.inside and (not prices or entry.unit not in ("kW", "")):
                 return Refused(number, where=_out(entry, names), question=_sign(entry) or _unit(entry))
     if number == 6:
-        for curve in standing(CURVES, record.version):
+        for curve in of_version(CURVES, record.version):
             broken = _broken_step(getattr(record.curves, curve.key), -1)
             if broken:
                 return Refused(6, where=f"curves.{curve.key}, the {curve.words} demand curve: {broken}")
@@ -207,7 +209,7 @@ def _of_quantity(place, case, certificate, names):
     amount, bound = model.quantities(case, certificate)[place - 1]
     where = f"{labels[place - 1]} is {amount:,} kW, and at most {bound.kw:,} kW is possible: {bound.why}"
     question = _question(amount, bound.kw)
-    cleared, provided = len(standing(CURVES, case.version)), len(standing(QUANTITIES, case.version))
+    cleared, provided = len(of_version(CURVES, case.version)), len(of_version(QUANTITIES, case.version))
     if place > cleared and not question:
         resource = case.resources[(place - cleared - 1) // provided]
         if resource.kind == Kind.conventional and 0 < abs(resource.estimated_output) < model.ON_LINE_OUTPUT:

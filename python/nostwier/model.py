@@ -8,7 +8,7 @@ from typing import TYPE_CHECKING, Iterator, List, NamedTuple, Optional, Tuple
 
 from .enums import Availability, Breaker, Flags, Kind, Status
 from .labels import Names
-from .layout import CURVE_STEPS, CURVES, ENERGY_STEPS, QUANTITIES, RESOURCE_ROWS, standing
+from .layout import CURVE_STEPS, CURVES, ENERGY_STEPS, QUANTITIES, RESOURCE_ROWS, of_version
 
 if TYPE_CHECKING:
     from .records import Case, Certificate, Resource
@@ -220,9 +220,9 @@ def quantities(case: "Case", certificate: "Certificate") -> List[Quantity]:
     """Each quantity of a certificate with its bound, place 1 first."""
     cleared = [Quantity(getattr(certificate.cleared, curve.key),
                         Figure(sum(step.width for step in getattr(case.curves, curve.key)), "the sum of the widths of its curve's steps"))
-               for curve in standing(CURVES, case.version)]
+               for curve in of_version(CURVES, case.version)]
     return cleared + [Quantity(getattr(dispatch, quantity.key), getattr(its, quantity.key))
-                      for its, dispatch in zip(states(case), certificate.resources) for quantity in standing(QUANTITIES, case.version)]
+                      for its, dispatch in zip(states(case), certificate.resources) for quantity in of_version(QUANTITIES, case.version)]
 
 
 class Row(NamedTuple):
@@ -273,7 +273,7 @@ def _given(provided):
 
 def rows(case: "Case", certificate: "Certificate") -> Iterator[Row]:
     """Each row with its two sides, row 1 first."""
-    its, dispatch, curves = states(case), certificate.resources, standing(CURVES, case.version)
+    its, dispatch, curves = states(case), certificate.resources, of_version(CURVES, case.version)
     yield Row("the energy of all resources", sum(d.e for d in dispatch), "=", "the demand", case.demand)
     provided = [Provided(d.g, d.c, d.s, d.o, s.spinning) for d, s in zip(dispatch, its)]
     given = _given(provided)
@@ -290,7 +290,7 @@ def rows(case: "Case", certificate: "Certificate") -> Iterator[Row]:
         yield Row("the flow", flow, "<=", "the limit", 1000 * flowgate.limit, 1000)
     for d, s in zip(dispatch, its):
         limits = _resource_rows(d, s)
-        yield from (limits[row.key] for row in standing(RESOURCE_ROWS, case.version))
+        yield from (limits[row.key] for row in of_version(RESOURCE_ROWS, case.version))
 
 
 def _resource_rows(d, s):
@@ -335,12 +335,12 @@ def parts(case: "Case", certificate: "Certificate") -> List[Part]:
     for place, (resource, s, d) in enumerate(zip(case.resources, states(case), certificate.resources)):
         lmp = prices.energy - sum(price * flowgate.shift_factors[place] for price, flowgate in zip(prices.flowgates, case.flowgates))
         zone = prices.zones[resource.zone - 1]
-        reserve = {curve.key: getattr(prices.market, curve.key) + getattr(zone, curve.key) for curve in standing(CURVES, case.version)}
+        reserve = {curve.key: getattr(prices.market, curve.key) + getattr(zone, curve.key) for curve in of_version(CURVES, case.version)}
         net = _net_prices(resource, s.spinning, lmp, reserve, d.row_prices)
         parts += _step_parts(resource.energy_steps, ENERGY_STEPS, d.e, net["e"], s.on_line)
         parts += [_part(net[quantity.key], getattr(d, quantity.key), getattr(s, quantity.key).kw)
-                  for quantity in standing(QUANTITIES, case.version) if quantity.key != "e"]
-    for curve in standing(CURVES, case.version):
+                  for quantity in of_version(QUANTITIES, case.version) if quantity.key != "e"]
+    for curve in of_version(CURVES, case.version):
         cleared, price = getattr(certificate.cleared, curve.key), getattr(prices.market, curve.key)
         parts += _step_parts(getattr(case.curves, curve.key), CURVE_STEPS, cleared, lambda step: price - 1000 * step.price)
     return parts
@@ -428,7 +428,7 @@ def _short_zones(case, its, names):
     for number, zone in enumerate(case.zones, 1):
         chosen = [s for s, resource in zip(its, case.resources) if resource.zone == number]
         can = _given([Provided(s.g.kw, s.c.kw, s.s.kw, s.o.kw, s.spinning) for s in chosen])
-        for curve in standing(CURVES, case.version):
+        for curve in of_version(CURVES, case.version):
             requirement, kw = getattr(zone, curve.key), can[curve.key]
             if requirement > kw:
                 yield (f"no schedule can meet the {curve.words} requirement of {names.of('zone', number)}, {requirement:,} kW: its "

@@ -16,7 +16,7 @@ from typing import Any, Callable, ClassVar, Dict, Iterator, List, NamedTuple, Tu
 from . import calls, layout, messages, model
 from .enums import NO_TRIP, Availability, Breaker, Flags, Kind, Status
 from .labels import Names
-from .layout import CURVE_STEPS, CURVES, ENERGY_STEPS, FILE_VERSIONS, LEAST, MOST, RESOURCE_ROWS, Counts, standing
+from .layout import CURVE_STEPS, CURVES, ENERGY_STEPS, FILE_VERSIONS, LEAST, MOST, RESOURCE_ROWS, Counts, of_version
 from .refusals import Refused
 
 
@@ -434,7 +434,7 @@ class Filed:
         another, or the version is not known."""
         counts = Counts.of_file(file)
         if len(file) != getattr(counts.sizes(file[4]), f"{cls.FILE}_bytes"):
-            raise ValueError("the file is not of the size that its version and its counts need")
+            raise ValueError("the file is not of the size that its counts need")
         return cls._of_numbers(struct.unpack(layout.START + layout.letters(cls.FILE, counts, file[4]), file), file[4])
 
     @classmethod
@@ -511,15 +511,19 @@ class Case(Filed):
         return Names([zone.name for zone in self.zones], [resource.name for resource in self.resources],
                      [flowgate.name for flowgate in self.flowgates])
 
-    def to_bytes(self) -> bytes:
-        """The case as a file; refused by the library's number, with the first field that it is about."""
+    def numbers(self) -> List[int]:
+        """Every field but length and version, in the file's order."""
         for place, flowgate in enumerate(self.flowgates):
             if len(flowgate.shift_factors) != len(self.resources):
                 _wrong(f"flowgates[{place}].shift_factors", f"{len(self.resources)} are wanted, one for each resource")
         for place, resource in enumerate(self.resources):
             _at_most(f"resources[{place}].energy_steps", resource.energy_steps, ENERGY_STEPS)
-        for curve in standing(CURVES, self.version):
+        for curve in of_version(CURVES, self.version):
             _at_most(f"curves.{curve.key}", getattr(self.curves, curve.key), CURVE_STEPS)
+        return super().numbers()
+
+    def to_bytes(self) -> bytes:
+        """The case as a file; refused by the library's number, with the first field that it is about."""
         return self._written(calls.write_case, 2)
 
     @classmethod
@@ -596,7 +600,7 @@ class Certificate(Filed):
 
     def prices_of_rows(self) -> List[int]:
         """The price of each row, row 1 first, as the file has it."""
-        curves, limits = standing(CURVES, self.version), standing(RESOURCE_ROWS, self.version)
+        curves, limits = of_version(CURVES, self.version), of_version(RESOURCE_ROWS, self.version)
         prices = [self.row_prices.energy]
         prices += [getattr(four, curve.key) for four in (self.row_prices.market, *self.row_prices.zones) for curve in curves]
         prices += self.row_prices.flowgates

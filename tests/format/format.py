@@ -18,13 +18,12 @@ from pathlib import Path
 from typing import NamedTuple
 
 import nostwier
-from nostwier import Case, Certificate, Counts, Refused, library
-from nostwier.layout import FILE_VERSIONS
+from nostwier import Case, Certificate, Counts, Refused, layout, library
 
 TYPES = {"u8": (1, False), "u16": (2, False), "u32": (4, False), "i16": (2, True), "i32": (4, True)}
 STEPS = {"curves": 4, "energy_steps": 10}
 CURVES = ["operating", "regulating_plus_spinning", "regulating", "short_term"]
-COUNTS = [Counts(1, 1, 0), Counts(3, 2, 2), Counts(2, 8, 1), Counts(5, 1, library.MOST.flowgates), library.MOST]
+COUNTS = [Counts(1, 1, 0), Counts(3, 2, 2), Counts(2, 8, 1), Counts(5, 1, layout.MOST.flowgates), layout.MOST]
 SMALL = Counts(3, 2, 2)
 
 
@@ -679,12 +678,13 @@ def check_model(page, model, top):
 
 
 def check_versions(text):
-    """The columns of versions are those of the versions that there are."""
+    """What a table has by version, it has of each version that there is, once."""
     for table in tables(text):
-        found = [match.groups() for match in map(OF_VERSION.fullmatch, table.head) if match]
-        versions = {int(version) for _, version in found}
-        wanted = set(FILE_VERSIONS) if found or table.title == "Sizes" else set()
-        yield f"the versions in the table below '{table.title}'", len(set(found)) == len(found) and versions == wanted
+        found = {}
+        for match in filter(None, map(OF_VERSION.fullmatch, table.head)):
+            found.setdefault(match[1], []).append(int(match[2]))
+        for name, versions in found.items():
+            yield f"{name} by version in the table below '{table.title}'", sorted(versions) == list(layout.FILE_VERSIONS)
 
 
 SAMPLE = """
@@ -722,7 +722,7 @@ def check_columns():
 
 def by_version(check, text, *others):
     """A check of the page for each version."""
-    for version in FILE_VERSIONS:
+    for version in layout.FILE_VERSIONS:
         for what, is_so in check(Page(text, version), *others):
             yield f"version {version}: {what}", is_so
 
@@ -864,11 +864,10 @@ def wrong_pages(text):
         if match := re.match(r"put\(\w+, (?:zeros\(Int, )?(\d+)", line):
             changed = line[:match.start(1)] + str(int(match[1]) + 1) + line[match.end(1):]
             yield changed, "\n".join([*lines[:at], changed, *lines[at + 1:]]), "example"
-    after = FILE_VERSIONS[-1] + 1
+    after = layout.FILE_VERSIONS[-1] + 1
     for head in {head for table in tables(text) for head in table.head if OF_VERSION.fullmatch(head)}:
-        changed = OF_VERSION.sub(lambda match: match[0].replace(match[2], str(after)), head)
-        for check in ("sizes", "versions"):
-            yield f"{head}: {changed}", text.replace(f"| {head} |", f"| {changed} |"), check
+        changed = head.replace(OF_VERSION.fullmatch(head)[2], str(after))
+        yield f"{head}: {changed}", text.replace(f"| {head} |", f"| {changed} |"), "versions"
 
 
 def a_line(cells):

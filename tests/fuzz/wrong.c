@@ -11,11 +11,11 @@ static int above_economic_maximum(const uint8_t *self_schedule, const uint8_t *m
     return memcmp(self_schedule, "\x00\x1e\x84\x80", 4) <= 0 && memcmp(self_schedule, maximum, 4) > 0;
 }
 
-/* The case as a wrong reader of version 1 would see it; the certificate and the answer are left alone. */
+/* The case as a wrong reader would see it; the certificate and the answer are left alone. */
 static const uint8_t *misread(const uint8_t *c, size_t cn)
 {
     static uint8_t seen[MOST];
-    if (cn < HEAD || cn > MOST || c[4] != 1 || cn < HEAD + 16u * c[6] + RESOURCE * (size_t)c[5])
+    if (cn < HEAD || cn > MOST || cn < HEAD + 16u * c[6] + RESOURCE * (size_t)c[5])
         return c;
     memcpy(seen, c, cn);
     for (uint8_t *at = seen + HEAD + 16 * c[6], *end = at + RESOURCE * c[5]; at < end; at += RESOURCE) {

@@ -3,7 +3,7 @@
  *   sizes VERSION R Z F   the sizes of files of this version with these counts, on one line: bytes of case and certificate, numbers
  *                         of both, rows, prices, charges
  *   sizes most            the same of the largest case
- *   sizes newest          the newest version of files
+ *   sizes versions        the versions of files whose sizes the header knows
  *   sizes refusals        a line for each number from 0 to one past the last refusal: the number, its text, its advice
  */
 #include <nostwier.h>
@@ -16,18 +16,14 @@
 /* The sizes of the largest case are constants, good for arrays. */
 static int64_t room[NOSTWIER_MOST_CHARGES + NOSTWIER_MOST_PRICES];
 
-/* So is each size whose arguments are: 0 before the first version and after the newest one, above 0 in the newest. */
-#define AFTER (NOSTWIER_NEWEST_FILE_VERSION + 1)
-#define BY_VERSION(name, size) \
-    typedef char name##_before[size(0, 1, 1, 0) == 0 ? 1 : -1]; \
-    typedef char name##_after[size(AFTER, 1, 1, 0) == 0 ? 1 : -1]; \
-    typedef char name##_newest[size(NOSTWIER_NEWEST_FILE_VERSION, 1, 1, 0)]
-BY_VERSION(case_bytes, NOSTWIER_CASE_BYTES);
-BY_VERSION(certificate_bytes, NOSTWIER_CERTIFICATE_BYTES);
-BY_VERSION(case_numbers, NOSTWIER_CASE_NUMBERS);
-BY_VERSION(certificate_numbers, NOSTWIER_CERTIFICATE_NUMBERS);
-BY_VERSION(rows, NOSTWIER_ROWS);
-BY_VERSION(charges, NOSTWIER_CHARGES);
+/* So is each size whose arguments are. */
+#define CONSTANT(name, size) typedef char name[size(1, 1, 1, 0)]
+CONSTANT(case_bytes, NOSTWIER_CASE_BYTES);
+CONSTANT(certificate_bytes, NOSTWIER_CERTIFICATE_BYTES);
+CONSTANT(case_numbers, NOSTWIER_CASE_NUMBERS);
+CONSTANT(certificate_numbers, NOSTWIER_CERTIFICATE_NUMBERS);
+CONSTANT(rows, NOSTWIER_ROWS);
+CONSTANT(charges, NOSTWIER_CHARGES);
 
 int main(int argc, char **argv)
 {
@@ -41,8 +37,10 @@ int main(int argc, char **argv)
         printf("%zu %zu %zu %zu %zu %zu %zu\n", NOSTWIER_MOST_CASE_BYTES, NOSTWIER_MOST_CERTIFICATE_BYTES,
                NOSTWIER_MOST_CASE_NUMBERS, NOSTWIER_MOST_CERTIFICATE_NUMBERS, NOSTWIER_OF_MOST(NOSTWIER_ROWS),
                NOSTWIER_MOST_PRICES, sizeof room / sizeof *room - NOSTWIER_MOST_PRICES);
-    } else if (argc == 2 && strcmp(argv[1], "newest") == 0) {
-        printf("%d\n", NOSTWIER_NEWEST_FILE_VERSION);
+    } else if (argc == 2 && strcmp(argv[1], "versions") == 0) {
+        for (int version = 0; version < 256; version++)
+            if (NOSTWIER_CASE_BYTES(version, 1, 1, 0) > 0)
+                printf("%d\n", version);
     } else if (argc == 2 && strcmp(argv[1], "refusals") == 0) {
         for (uint32_t number = 0; number <= NOSTWIER_REFUSALS + 1; number++)
             printf("%u\t%s\t%s\n", (unsigned)number, nostwier_refusal_text(number), nostwier_refusal_advice(number));

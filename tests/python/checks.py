@@ -17,7 +17,6 @@ import re
 import subprocess
 import sys
 import tempfile
-import types
 from pathlib import Path
 
 import nostwier
@@ -183,7 +182,7 @@ def answers():
 def refusals():
     # 15 is never met through the module, which lends enough; the library itself says it, and writes nothing then.
     case, certificate = pairs["small"]
-    counts = library.Counts.of_file(case)
+    counts = nostwier.Counts.of_file(case)
     sizes = counts.sizes(case[4])
     case_numbers, certificate_numbers = nostwier.read_case(case), nostwier.read_certificate(certificate)
     for name, lent, item, size in (
@@ -264,7 +263,7 @@ def records():
         same(f"{name} by its record", read.to_bytes(), case)
         same(f"{name} by its dictionary", nostwier.Case.from_dict(read.to_dict()), read)
         same(f"{name} by JSON", nostwier.Case.from_json(read.to_json()).to_bytes(), case)
-        same(f"the counts of {name}", read.counts, library.Counts.of_file(case))
+        same(f"the counts of {name}", read.counts, nostwier.Counts.of_file(case))
         same(f"the version of {name}", read.version, case[4])
         made = nostwier.Certificate.from_bytes(certificate)
         same(f"certificate {name} by its record", made.to_bytes(), certificate)
@@ -487,6 +486,9 @@ def ranges():
                  "or more, whichever way the solver counts: write it without the minus."))
 
 
+LABELS = nostwier.row_labels, nostwier.charge_labels, nostwier.quantity_labels
+
+
 def labels():
     # The C host lists the same charges in the same words.
     for name, (case, certificate) in accepted.items():
@@ -494,15 +496,14 @@ def labels():
         printed = subprocess.run([HOST, folder / f"{name}.case", folder / f"{name}.cert", "100000"], capture_output=True, check=True,
                                  text=True).stdout
         listing = printed[printed.index("charges above 0"):].splitlines()[1:]
-        counts = library.Counts.of_file(case)
+        counts = nostwier.Counts.of_file(case)
         listed = [c for c in nostwier.listed_charges(counts, nostwier.charges(case, certificate), version=case[4]) if c.grains > 0]
         same(f"the charges of {name} in words",
              [f"{c.grains:>22} grains  ${nostwier.dollars(c.grains, 9):f}  {c.label}" for c in listed], listing)
         sizes = counts.sizes(case[4])
-        same(f"labels of {name}", [len(label(counts, version=case[4])) for label in (nostwier.row_labels, nostwier.charge_labels,
-                                                                                     nostwier.quantity_labels)],
-             [sizes.rows, sizes.charges, sizes.quantities])
-    counts = library.Counts(2, 2, 1)
+        same(f"labels of {name}", [len(label(counts, version=case[4])) for label in LABELS],
+             [sizes.rows, sizes.charges, {1: 4 + 5 * counts.resources}[case[4]]])
+    counts = nostwier.Counts(2, 2, 1)
     rows = nostwier.row_labels(counts, Names(zones=["North", ""], resources=["", "Wind"], flowgates=["Tie"]))
     same("rows in words", [rows[number - 1] for number in (1, 2, 5, 6, 13, 14, 15, 24)], [
         "energy equals demand", "market-wide operating reserve", "market-wide short-term reserve", "zone 1 (North): operating reserve",
@@ -520,27 +521,26 @@ def versions():
     def printed(*words):
         return [int(word) for word in subprocess.run([SIZES, *map(str, words)], capture_output=True, check=True).stdout.split()]
 
-    unknown = (-1, 0, layout.NEWEST_FILE_VERSION + 1, 255, 256, 257)
-    same("the newest version is the header's", [layout.NEWEST_FILE_VERSION], printed("newest"))
+    unknown = (-1, 0, layout.FILE_VERSIONS[-1] + 1, 255, 256, 257)
+    same("the versions are the header's", list(layout.FILE_VERSIONS), printed("versions"))
     for counts in (layout.LEAST, nostwier.Counts(3, 2, 1), nostwier.Counts(10, 8, 5), layout.MOST):
         for version in (*layout.FILE_VERSIONS, *unknown):
-            *sizes, _, rows, charges = counts.sizes(version)
+            *sizes, rows, charges = counts.sizes(version)
             same(f"sizes of {counts} in version {version}", [*sizes, rows, counts.prices, charges], printed(version, *counts))
         same(f"sizes of {counts} without a version",
              [counts.case_bytes, counts.certificate_bytes, counts.case_numbers, counts.certificate_numbers, counts.rows, counts.prices,
               counts.charges], printed(1, *counts))
         for version in unknown:
-            same(f"labels of version {version}", [label(counts, version=version) for label in (
-                nostwier.row_labels, nostwier.quantity_labels, nostwier.charge_labels)], [[], [], []])
-    same("the sizes of the largest case", [*layout.LARGEST[:4], layout.LARGEST.rows, layout.MOST.prices, layout.LARGEST.charges],
-         printed("most"))
+            same(f"labels of version {version}", [label(counts, version=version) for label in LABELS], [[], [], []])
+    *sizes, rows, charges = layout.LARGEST
+    same("the sizes of the largest case", [*sizes, rows, layout.MOST.prices, charges], printed("most"))
     same("versions that were met", sorted({file[4] for pair in accepted.values() for file in pair}), list(layout.FILE_VERSIONS))
 
 
 def unknown_versions():
     """A file of a version that is not known is refused by the library, and a record of one is not written."""
     case, certificate = pairs["small"]
-    for version in (0, layout.NEWEST_FILE_VERSION + 1, 255):
+    for version in (0, layout.FILE_VERSIONS[-1] + 1, 255):
         other_case, other_certificate = (file[:4] + bytes([version]) + file[5:] for file in (case, certificate))
         where = f"its version is {version}"
         for number, call, *files in (
@@ -561,40 +561,13 @@ def unknown_versions():
 # Versions 2 and 3 as they might be: lines of the module, and what stands in their place. A flag byte and a quantity are new with
 # version 2, and version 3 has no emergency minimum.
 LATER = (
-    ("layout.py", "NEWEST_FILE_VERSION = 1\n", "NEWEST_FILE_VERSION = 3\n"),
-    ("layout.py", '    Listed("o", "off-line short-term o"),\n', '    Listed("o", "off-line short-term o"),\n    Listed("u", "up u", 2),\n'),
-    ("layout.py", '        Entry("ramp_up",', '        Entry("second_flags", "B", 0, 3, "", 2),\n        Entry("ramp_up",'),
-    ("layout.py", '        Entry("emergency.minimum", "I", 0, POWER, KW),', '        Entry("emergency.minimum", "I", 0, POWER, KW, 1, 2),'),
+    ("layout.py", "FILE_VERSIONS: Tuple[int, ...] = (1,)", "FILE_VERSIONS: Tuple[int, ...] = (1, 2, 3)"),
+    ("layout.py", '    Listed("o", "off-line short-term o"),\n', '    Listed("o", "off-line short-term o"),\n    Listed("u", "up u", (2, 3)),\n'),
+    ("layout.py", '        Entry("ramp_up",', '        Entry("second_flags", "B", 0, 3, "", (2, 3)),\n        Entry("ramp_up",'),
+    ("layout.py", '        Entry("emergency.minimum", "I", 0, POWER, KW),', '        Entry("emergency.minimum", "I", 0, POWER, KW, (1, 2)),'),
     ("records.py", "    self_schedule: int = _field(WHOLE, 0)\n", "    self_schedule: int = _field(WHOLE, 0)\n    second_flags: int = _field(WHOLE, 0)\n"),
     ("records.py", "    o: int = _field(WHOLE, 0)\n", "    o: int = _field(WHOLE, 0)\n    u: int = _field(WHOLE, 0)\n"),
 )
-
-
-def later_versions():
-    """What stands from a later version on, or up to an earlier one, is one entry of a list."""
-    text = Path(layout.__file__).read_text(encoding="utf-8")
-    for old, new in (lines for file, *lines in LATER if file == "layout.py"):
-        text = text.replace(old, new)
-    later = types.ModuleType("later")
-    exec(compile(text, "later", "exec"), vars(later))
-    counts, sizes = later.Counts(3, 2, 1), layout.Counts(3, 2, 1).sizes(1)
-    none = tuple(0 for _ in sizes)
-    moved = [tuple(now - before for now, before in zip(counts.sizes(version), sizes)) for version in (1, 2, 3)]
-    same("sizes of later versions", moved, [none, (3, 12, 3, 3, 3, 0, 3), (3 - 12, 12, 0, 3, 3, 0, 3)])
-    same("sizes of a version beyond", counts.sizes(4), none)
-    largest = [max(later.MOST.sizes(version)[place] for version in (1, 2, 3)) for place in range(len(sizes))]
-    same("the largest of each", list(later.LARGEST), largest)
-
-    def names(file, version, start):
-        return [place.where[len(start):] for place in later.places(file, counts, version) if place.where.startswith(start)]
-
-    for version, quantities, after in ((1, "egcso", ["emergency.minimum", "emergency.maximum", "ramp_up"]),
-                                       (2, "egcsou", ["emergency.minimum", "emergency.maximum", "second_flags", "ramp_up"]),
-                                       (3, "egcsou", ["emergency.maximum", "second_flags", "ramp_up"])):
-        same(f"the quantities of version {version}", "".join(names("certificate", version, "resources[2].")[:len(quantities)]), quantities)
-        of_resource = names("case", version, "resources[1].")
-        same(f"the fields of version {version}", of_resource[of_resource.index("regulating.maximum") + 1:][:len(after)], after)
-        same(f"the types of version {version}", len(later.letters("case", counts, version)), counts.sizes(version).case_numbers)
 
 
 LATER_FILES = """
@@ -604,23 +577,25 @@ for version in (1, 2, 3):
     for record, path in ((Case, sys.argv[1]), (Certificate, sys.argv[2])):
         filed = record.unjudged(open(path, "rb").read())
         filed.version = version
-        if record is Case and version > 1:
-            filed.resources[1].second_flags = 3
-        if record is Case and version > 2:
-            for resource in filed.resources:
-                resource.emergency.minimum = 0
-        if record is Certificate and version > 1:
-            filed.resources[1].u = 77
-        letters = layout.letters(record.FILE, filed.counts, version)
-        size = getattr(filed.counts.sizes(version), record.FILE + "_bytes")
+        for resource in filed.resources:
+            if record is Case:
+                resource.second_flags = 3 if version > 1 else 0
+                resource.emergency.minimum = 5 if version < 3 else 0
+            else:
+                resource.u = 77 if version > 1 else 0
+        sizes, before = filed.counts.sizes(version), filed.counts.sizes(1)
+        size, letters = getattr(sizes, record.FILE + "_bytes"), layout.letters(record.FILE, filed.counts, version)
         file = struct.pack(">IB" + letters, size - 4, version, *filed.numbers())
-        read = record.unjudged(file)
-        print(version, len(file) == size, read == filed, read.version, len(list(filed.misfits())), len(filed.numbers()) == len(letters))
+        names = [place.where[13:] for place in layout.places(record.FILE, filed.counts, version) if place.where.startswith("resources[1].")]
+        print(version, record.FILE, *[now - then for now, then in zip(sizes, before)], *names[5 if record is Certificate else 11:][:3])
+        assert size == len(file) and record.unjudged(file) == filed and not list(filed.misfits())
+        assert getattr(sizes, record.FILE + "_numbers") == len(letters) == len(filed.numbers())
+assert layout.LARGEST == tuple(max(layout.MOST.sizes(version)[which] for version in (1, 2, 3)) for which in range(len(sizes)))
 """
 
 
-def later_files():
-    """Records are read out of files of later versions, and written, by these entries and the field of the record."""
+def later_versions():
+    """A field or quantity that some versions alone have is a line of a table and a field of the record, and no more."""
     with tempfile.TemporaryDirectory() as folder:
         subprocess.run(["cp", "-r", Path(layout.__file__).parent, folder], check=True)
         for file, old, new in LATER:
@@ -630,7 +605,16 @@ def later_files():
             path.write_text(text.replace(old, new), encoding="utf-8")
         done = subprocess.run([sys.executable, "-c", LATER_FILES, EXAMPLE / "small.case", EXAMPLE / "small.cert"], capture_output=True,
                               text=True, check=False, env={**os.environ, "PYTHONPATH": folder})
-    same("files of later versions", (done.stdout, done.stderr), ("".join(f"{version} True True {version} 0 True\n" * 2 for version in (1, 2, 3)), ""))
+    r = nostwier.Counts.of_file(pairs["small"][0]).resources
+    wanted = []
+    for version, sizes, in_case, in_certificate in (
+        (1, (0, 0, 0, 0, 0, 0), "emergency.minimum emergency.maximum ramp_up", "row_prices.within_max row_prices.short_term_within_max row_prices.above_min"),
+        (2, (r, 4 * r, r, r, 0, r), "emergency.minimum emergency.maximum second_flags", "u row_prices.within_max row_prices.short_term_within_max"),
+        (3, (r - 4 * r, 4 * r, 0, r, 0, r), "emergency.maximum second_flags ramp_up", "u row_prices.within_max row_prices.short_term_within_max"),
+    ):
+        for file, names in (("case", in_case), ("certificate", in_certificate)):
+            wanted.append(" ".join(map(str, (version, file, *sizes, names))))
+    same("files of later versions", (done.stdout.splitlines(), done.stderr), (wanted, ""))
 
 
 def units():
@@ -923,13 +907,17 @@ def commands():
         check("prices in cents", "question: Are the prices of rows in cents? They are in thousandths of a cent per MWh (those of flowgates in cents). "
               "With 1,000 times as much the gap is $0.000000." in explain(pairs["worked-a"][0], worked))
         check("no question of the example", "question" not in explain(*pairs["small"]))
-        before = nostwier.Certificate.from_bytes(certificate.read_bytes())
-        after = sys.modules["nostwier.explain"]._with_prices(before, lambda price: price + 1, 7)
-        flowgates = slice(1 + 4 + 4 * before.counts.zones, 1 + 4 + 4 * before.counts.zones + before.counts.flowgates)
-        prices = [7] + [price + 1 for price in before.prices_of_rows()[1:]]
-        prices[flowgates] = before.row_prices.flowgates
-        same("prices for a question", (after.prices_of_rows(), after.cleared, [d.e for d in after.resources], after.version),
-             (prices, before.cleared, [d.e for d in before.resources], before.version))
+
+
+def questions():
+    """Other prices, which a question is tried with, are those of every row but of flowgates; the rest stays."""
+    before = nostwier.Certificate.from_bytes(pairs["small"][1])
+    after = sys.modules["nostwier.explain"]._with_prices(before, lambda price: price + 1, 7)
+    first = 1 + 4 + 4 * before.counts.zones
+    prices = [7] + [price + 1 for price in before.prices_of_rows()[1:]]
+    prices[first:first + before.counts.flowgates] = before.row_prices.flowgates
+    same("prices for a question", (after.prices_of_rows(), after.cleared, [d.e for d in after.resources], after.version),
+         (prices, before.cleared, [d.e for d in before.resources], before.version))
 
 
 def models():
@@ -1209,8 +1197,8 @@ def finding():
 
 answers()
 if not ANSWERS_ALONE:
-    for part in (refusals, records, order, ranges, labels, versions, unknown_versions, later_versions, later_files, units, models,
-                 package, commands, finding):
+    for part in (refusals, records, order, ranges, labels, versions, unknown_versions, later_versions, units, models, package, commands,
+                 questions, finding):
         part()
 print(f"{passed} passed, {failed} failed")
 sys.exit(0 if passed and not failed else 1)
