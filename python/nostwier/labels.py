@@ -2,7 +2,7 @@
 
 from typing import List, NamedTuple
 
-from .layout import CURVE_STEPS, CURVES, ENERGY_STEPS, FILE_VERSIONS, QUANTITIES, RESOURCE_ROWS, Counts, of_version
+from .layout import CURVE_STEPS, CURVES, ENERGY_STEPS, FILE_VERSIONS, QUANTITIES, RESOURCE_ROWS, ZONE_REQUIREMENTS, Counts, of_version
 
 
 class Names(NamedTuple):
@@ -23,11 +23,12 @@ def row_labels(counts: Counts, names: Names = Names(), version: int = 1) -> List
     """Each row in words, row 1 first; none if the version is not known."""
     if version not in FILE_VERSIONS:
         return []
-    curves, limits = of_version(CURVES, version), of_version(RESOURCE_ROWS, version)
-    labels = ["energy equals demand"] + [f"market-wide {curve.words} reserve" for curve in curves]
-    labels += [f"{names.of('zone', z)}: {curve.words} reserve" for z in _from_1(counts.zones) for curve in curves]
+    labels = ["energy equals demand"] + [f"market-wide {curve.words} reserve" for curve in of_version(CURVES, version)]
+    labels += [f"{names.of('zone', z)}: {required.words} reserve" for z in _from_1(counts.zones)
+               for required in of_version(ZONE_REQUIREMENTS, version)]
     labels += [names.of("flowgate", f) for f in _from_1(counts.flowgates)]
-    return labels + [f"{names.of('resource', r)}: {row.words}" for r in _from_1(counts.resources) for row in limits]
+    return labels + [f"{names.of('resource', r)}: {row.words}" for r in _from_1(counts.resources)
+                     for row in of_version(RESOURCE_ROWS, version)]
 
 
 def quantity_labels(counts: Counts, names: Names = Names(), version: int = 1) -> List[str]:

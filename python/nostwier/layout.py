@@ -48,6 +48,7 @@ CURVES = (
     Listed("regulating", "regulating"),
     Listed("short_term", "short-term"),
 )
+ZONE_REQUIREMENTS = CURVES  # of each zone, in the order of the curves
 QUANTITIES = (  # of a resource
     Listed("e", "energy e"),
     Listed("g", "regulating g"),
@@ -90,9 +91,9 @@ def _steps(path, count, most_width, least_price, versions=FILE_VERSIONS):
         Entry(f"{path}[{step}].price", price, least_price, OFFER_PRICE, CENTS, versions))]
 
 
-def _by_curve(path, most, unit):
-    """A number for each curve."""
-    return [Entry(f"{path}{curve.key}", "I", 0, most, unit, curve.versions) for curve in CURVES]
+def _each(table, path, most, unit):
+    """A number for each curve, quantity or row."""
+    return [Entry(f"{path}{line.key}", "I", 0, most, unit, line.versions) for line in table]
 
 
 _PAIRED, _SHARED = ("contingency", "regulating", "short_term"), ("regulating", "contingency", "short_term")
@@ -107,7 +108,7 @@ _CASE = (
         *[entry for curve in CURVES
           for entry in _steps(f"curves.{curve.key}", CURVE_STEPS, MARKET_POWER, 0, curve.versions)],
     )),
-    Part("zones", "zones", tuple(_by_curve("", POWER, KW))),
+    Part("zones", "zones", tuple(_each(ZONE_REQUIREMENTS, "", POWER, KW))),
     Part("resources", "resources", (
         Entry("kind", "B", 1, 3),
         Entry("zone", "B", 1, None),
@@ -143,15 +144,15 @@ _CASE = (
 # The end of a quantity's range is what its bytes hold, as its bound is in the case.
 _CERTIFICATE = (
     Part("", "", (
-        *_by_curve("cleared.", U32, KW),
+        *_each(CURVES, "cleared.", U32, KW),
         Entry("row_prices.energy", "i", -ROW_PRICE, ROW_PRICE, THOUSANDTHS_OF_A_CENT),
-        *_by_curve("row_prices.market.", ROW_PRICE, THOUSANDTHS_OF_A_CENT),
+        *_each(CURVES, "row_prices.market.", ROW_PRICE, THOUSANDTHS_OF_A_CENT),
     )),
-    Part("row_prices.zones", "zones", tuple(_by_curve("", ROW_PRICE, THOUSANDTHS_OF_A_CENT))),
+    Part("row_prices.zones", "zones", tuple(_each(ZONE_REQUIREMENTS, "", ROW_PRICE, THOUSANDTHS_OF_A_CENT))),
     Part("row_prices.flowgates", "flowgates", (Entry("", "I", 0, OFFER_PRICE, CENTS),)),
     Part("resources", "resources", (
-        *[Entry(quantity.key, "I", 0, U32, KW, quantity.versions) for quantity in QUANTITIES],
-        *[Entry(f"row_prices.{row.key}", "I", 0, ROW_PRICE, THOUSANDTHS_OF_A_CENT, row.versions) for row in RESOURCE_ROWS],
+        *_each(QUANTITIES, "", U32, KW),
+        *_each(RESOURCE_ROWS, "row_prices.", ROW_PRICE, THOUSANDTHS_OF_A_CENT),
     )),
 )
 PARTS = {"case": _CASE, "certificate": _CERTIFICATE}
@@ -191,8 +192,9 @@ class Counts(NamedTuple):
         if version not in FILE_VERSIONS:
             return Sizes(*[0] * len(Sizes._fields))
         case, certificate = letters("case", self, version), letters("certificate", self, version)
-        curves, quantities, limits = (len(of_version(entries, version)) for entries in (CURVES, QUANTITIES, RESOURCE_ROWS))
-        rows = 1 + curves + curves * self.zones + self.flowgates + limits * self.resources
+        curves, requirements, quantities, limits = (
+            len(of_version(table, version)) for table in (CURVES, ZONE_REQUIREMENTS, QUANTITIES, RESOURCE_ROWS))
+        rows = 1 + curves + requirements * self.zones + self.flowgates + limits * self.resources
         of_resource = ENERGY_STEPS + quantities - 1  # the steps stand for energy
         return Sizes(struct.calcsize(START + case), struct.calcsize(START + certificate), len(case), len(certificate),
                      rows, rows + of_resource * self.resources + CURVE_STEPS * curves)

@@ -8,7 +8,7 @@ from typing import TYPE_CHECKING, Iterator, List, NamedTuple, Optional, Tuple
 
 from .enums import Availability, Breaker, Flags, Kind, Status
 from .labels import Names
-from .layout import CURVE_STEPS, CURVES, ENERGY_STEPS, QUANTITIES, RESOURCE_ROWS, of_version
+from .layout import CURVE_STEPS, CURVES, ENERGY_STEPS, QUANTITIES, RESOURCE_ROWS, ZONE_REQUIREMENTS, of_version
 
 if TYPE_CHECKING:
     from .records import Case, Certificate, Resource
@@ -273,18 +273,18 @@ def _given(provided):
 
 def rows(case: "Case", certificate: "Certificate") -> Iterator[Row]:
     """Each row with its two sides, row 1 first."""
-    its, dispatch, curves = states(case), certificate.resources, of_version(CURVES, case.version)
+    its, dispatch = states(case), certificate.resources
     yield Row("the energy of all resources", sum(d.e for d in dispatch), "=", "the demand", case.demand)
     provided = [Provided(d.g, d.c, d.s, d.o, s.spinning) for d, s in zip(dispatch, its)]
     given = _given(provided)
-    for curve in curves:
+    for curve in of_version(CURVES, case.version):
         yield Row(f"{GIVEN[curve.key]} of all resources", given[curve.key], ">=", "the cleared quantity",
                   getattr(certificate.cleared, curve.key))
     for number, zone in enumerate(case.zones, 1):
         given = _given([p for p, resource in zip(provided, case.resources) if resource.zone == number])
-        for curve in curves:
-            yield Row(f"{GIVEN[curve.key]} of the zone's resources", given[curve.key], ">=", "the zone's requirement",
-                      getattr(zone, curve.key))
+        for required in of_version(ZONE_REQUIREMENTS, case.version):
+            yield Row(f"{GIVEN[required.key]} of the zone's resources", given[required.key], ">=", "the zone's requirement",
+                      getattr(zone, required.key))
     for flowgate in case.flowgates:
         flow = sum(factor * d.e for factor, d in zip(flowgate.shift_factors, dispatch))
         yield Row("the flow", flow, "<=", "the limit", 1000 * flowgate.limit, 1000)
@@ -335,7 +335,8 @@ def parts(case: "Case", certificate: "Certificate") -> List[Part]:
     for place, (resource, s, d) in enumerate(zip(case.resources, states(case), certificate.resources)):
         lmp = prices.energy - sum(price * flowgate.shift_factors[place] for price, flowgate in zip(prices.flowgates, case.flowgates))
         zone = prices.zones[resource.zone - 1]
-        reserve = {curve.key: getattr(prices.market, curve.key) + getattr(zone, curve.key) for curve in of_version(CURVES, case.version)}
+        reserve = {required.key: getattr(prices.market, required.key) + getattr(zone, required.key)
+                   for required in of_version(ZONE_REQUIREMENTS, case.version)}
         net = _net_prices(resource, s.spinning, lmp, reserve, d.row_prices)
         parts += _step_parts(resource.energy_steps, ENERGY_STEPS, d.e, net["e"], s.on_line)
         parts += [_part(net[quantity.key], getattr(d, quantity.key), getattr(s, quantity.key).kw)
@@ -347,7 +348,8 @@ def parts(case: "Case", certificate: "Certificate") -> List[Part]:
 
 
 def _net_prices(resource, spinning, lmp, reserve, limits):
-    """The net price of each quantity of a resource; of energy that of a step. reserve: market and zone price of each curve."""
+    """The net price of each quantity of a resource; of energy that of a step. reserve: what each kind of reserve is paid in the
+    resource's zone, market and zone price together."""
     energy = lmp - limits.within_max - limits.short_term_within_max + limits.above_min - limits.within_hi + limits.above_lo
     regulating = reserve["operating"] + reserve["regulating_plus_spinning"] + reserve["regulating"]
     contingency = reserve["operating"] + (reserve["regulating_plus_spinning"] if spinning else 0)
@@ -428,10 +430,10 @@ def _short_zones(case, its, names):
     for number, zone in enumerate(case.zones, 1):
         chosen = [s for s, resource in zip(its, case.resources) if resource.zone == number]
         can = _given([Provided(s.g.kw, s.c.kw, s.s.kw, s.o.kw, s.spinning) for s in chosen])
-        for curve in of_version(CURVES, case.version):
-            requirement, kw = getattr(zone, curve.key), can[curve.key]
+        for required in of_version(ZONE_REQUIREMENTS, case.version):
+            requirement, kw = getattr(zone, required.key), can[required.key]
             if requirement > kw:
-                yield (f"no schedule can meet the {curve.words} requirement of {names.of('zone', number)}, {requirement:,} kW: its "
+                yield (f"no schedule can meet the {required.words} requirement of {names.of('zone', number)}, {requirement:,} kW: its "
                        f"resources can give at most {kw:,} kW by their flags, ramps and shares{asks(requirement, kw, 'kW')}")
 
 

@@ -16,7 +16,7 @@ from typing import Any, Callable, ClassVar, Dict, Iterator, List, NamedTuple, Tu
 from . import calls, layout, messages, model
 from .enums import NO_TRIP, Availability, Breaker, Flags, Kind, Status
 from .labels import Names
-from .layout import CURVE_STEPS, CURVES, ENERGY_STEPS, FILE_VERSIONS, LEAST, MOST, RESOURCE_ROWS, Counts, of_version
+from .layout import CURVE_STEPS, CURVES, ENERGY_STEPS, FILE_VERSIONS, LEAST, MOST, RESOURCE_ROWS, ZONE_REQUIREMENTS, Counts, of_version
 from .refusals import Refused
 
 
@@ -214,7 +214,7 @@ class _EachCurve:
     """One value for each of the curves, which are gone through in their order."""
 
     def __iter__(self):
-        return iter([getattr(self, curve.key) for curve in CURVES])
+        return iter([getattr(self, key) for key in _keys(type(self)) if key != "name"])
 
 
 @dataclass
@@ -600,8 +600,9 @@ class Certificate(Filed):
 
     def prices_of_rows(self) -> List[int]:
         """The price of each row, row 1 first, as the file has it."""
-        curves, limits = of_version(CURVES, self.version), of_version(RESOURCE_ROWS, self.version)
-        prices = [self.row_prices.energy]
-        prices += [getattr(four, curve.key) for four in (self.row_prices.market, *self.row_prices.zones) for curve in curves]
-        prices += self.row_prices.flowgates
-        return prices + [getattr(resource.row_prices, row.key) for resource in self.resources for row in limits]
+        own = self.row_prices
+        prices = [own.energy] + [getattr(own.market, curve.key) for curve in of_version(CURVES, self.version)]
+        prices += [getattr(zone, required.key) for zone in own.zones for required in of_version(ZONE_REQUIREMENTS, self.version)]
+        prices += own.flowgates
+        return prices + [getattr(resource.row_prices, row.key) for resource in self.resources
+                         for row in of_version(RESOURCE_ROWS, self.version)]

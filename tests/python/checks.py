@@ -550,6 +550,8 @@ def unknown_versions():
             (9, nostwier.Certificate.from_bytes, other_certificate),
         ):
             same(f"{call.__qualname__} in version {version}", refusal_of(call, *files), (number, 0, where))
+        swapped = raised(nostwier.Refused, nostwier.check_certificate, other_certificate, other_case)
+        check(f"files of version {version} swapped", "Are the files swapped?" in str(swapped))
         for number, record, file, other in ((2, nostwier.Case, case, other_case), (9, nostwier.Certificate, certificate, other_certificate)):
             read = record.from_bytes(file)
             check(f"{record.__name__} of version {version} unjudged", raised(ValueError, record.unjudged, other))
@@ -558,25 +560,31 @@ def unknown_versions():
             same(f"{record.__name__} written in version {version}", refusal_of(read.to_bytes), (number, 0, where))
 
 
-# Versions 2 and 3 as they might be: lines of the module, and what stands in their place. A flag byte and a quantity are new with
-# version 2, and version 3 has no emergency minimum.
+# Versions 2 and 3 as they might be: lines of the module, and what stands in their place. A curve, a flag byte and a quantity are
+# new with version 2, and version 3 has no emergency minimum.
 LATER = (
     ("layout.py", "FILE_VERSIONS: Tuple[int, ...] = (1,)", "FILE_VERSIONS: Tuple[int, ...] = (1, 2, 3)"),
+    ("layout.py", '    Listed("short_term", "short-term"),\n', '    Listed("short_term", "short-term"),\n    Listed("up", "up", (2, 3)),\n'),
+    ("layout.py", "ZONE_REQUIREMENTS = CURVES ", "ZONE_REQUIREMENTS = CURVES[:4] "),
     ("layout.py", '    Listed("o", "off-line short-term o"),\n', '    Listed("o", "off-line short-term o"),\n    Listed("u", "up u", (2, 3)),\n'),
     ("layout.py", '        Entry("ramp_up",', '        Entry("second_flags", "B", 0, 3, "", (2, 3)),\n        Entry("ramp_up",'),
     ("layout.py", '        Entry("emergency.minimum", "I", 0, POWER, KW),', '        Entry("emergency.minimum", "I", 0, POWER, KW, (1, 2)),'),
+    ("records.py", '    """The four demand curves."""\n\n', '    up: List[Step] = _field(STEPS_OF_CURVE, list)\n'),
+    ("records.py", '    """Quantities in kW, or prices in thousandths of a cent."""\n\n', '    up: int = _field(WHOLE, 0)\n'),
     ("records.py", "    self_schedule: int = _field(WHOLE, 0)\n", "    self_schedule: int = _field(WHOLE, 0)\n    second_flags: int = _field(WHOLE, 0)\n"),
     ("records.py", "    o: int = _field(WHOLE, 0)\n", "    o: int = _field(WHOLE, 0)\n    u: int = _field(WHOLE, 0)\n"),
 )
-
-
 LATER_FILES = """
 import struct, sys
-from nostwier import Case, Certificate, layout
+from nostwier import Case, Certificate, Step, charge_labels, layout, row_labels
 for version in (1, 2, 3):
     for record, path in ((Case, sys.argv[1]), (Certificate, sys.argv[2])):
         filed = record.unjudged(open(path, "rb").read())
         filed.version = version
+        if record is Case:
+            filed.curves.up = [Step(7, 5)] if version > 1 else []
+        else:
+            filed.cleared.up, filed.row_prices.market.up = (6, 4) if version > 1 else (0, 0)
         for resource in filed.resources:
             if record is Case:
                 resource.second_flags = 3 if version > 1 else 0
@@ -590,12 +598,16 @@ for version in (1, 2, 3):
         print(version, record.FILE, *[now - then for now, then in zip(sizes, before)], *names[5 if record is Certificate else 11:][:3])
         assert size == len(file) and record.unjudged(file) == filed and not list(filed.misfits())
         assert getattr(sizes, record.FILE + "_numbers") == len(letters) == len(filed.numbers())
+    labels = row_labels(filed.counts, version=version)
+    assert (len(labels), len(filed.prices_of_rows())) == (sizes.rows, sizes.rows)
+    assert (labels[5:6] == ["market-wide up reserve"]) == (filed.prices_of_rows()[5:6] == [4]) == (version > 1)
+    assert len(charge_labels(filed.counts, version=version)) == sizes.charges
 assert layout.LARGEST == tuple(max(layout.MOST.sizes(version)[which] for version in (1, 2, 3)) for which in range(len(sizes)))
 """
 
 
 def later_versions():
-    """A field or quantity that some versions alone have is a line of a table and a field of the record, and no more."""
+    """A curve, field or quantity that some versions alone have is a line of a table and a field of the record, and no more."""
     with tempfile.TemporaryDirectory() as folder:
         subprocess.run(["cp", "-r", Path(layout.__file__).parent, folder], check=True)
         for file, old, new in LATER:
@@ -609,8 +621,8 @@ def later_versions():
     wanted = []
     for version, sizes, in_case, in_certificate in (
         (1, (0, 0, 0, 0, 0, 0), "emergency.minimum emergency.maximum ramp_up", "row_prices.within_max row_prices.short_term_within_max row_prices.above_min"),
-        (2, (r, 4 * r, r, r, 0, r), "emergency.minimum emergency.maximum second_flags", "u row_prices.within_max row_prices.short_term_within_max"),
-        (3, (r - 4 * r, 4 * r, 0, r, 0, r), "emergency.maximum second_flags ramp_up", "u row_prices.within_max row_prices.short_term_within_max"),
+        (2, (32 + r, 8 + 4 * r, 8 + r, 2 + r, 1, 5 + r), "emergency.minimum emergency.maximum second_flags", "u row_prices.within_max row_prices.short_term_within_max"),
+        (3, (32 - 3 * r, 8 + 4 * r, 8, 2 + r, 1, 5 + r), "emergency.maximum second_flags ramp_up", "u row_prices.within_max row_prices.short_term_within_max"),
     ):
         for file, names in (("case", in_case), ("certificate", in_certificate)):
             wanted.append(" ".join(map(str, (version, file, *sizes, names))))
