@@ -515,6 +515,13 @@ def labels():
         "short-term curve: step 4"])
 
 
+def gone_through():
+    """What there is for each curve, or for each row of a resource, is gone through in their order, without a name."""
+    for made, values in ((nostwier.ByCurve(1, 2, 3, 4), [1, 2, 3, 4]), (nostwier.Zone(1, 2, 3, 4, "North"), [1, 2, 3, 4]),
+                         (nostwier.Curves([1], [2], [3], [4]), [[1], [2], [3], [4]]), (nostwier.ResourceRows(1, 2, 3, 4, 5), [1, 2, 3, 4, 5])):
+        same(f"what a {type(made).__name__} has", list(made), values)
+
+
 def versions():
     """Sizes by version are the header's; of a version that is not known there is nothing."""
 
@@ -1209,8 +1216,8 @@ def finding():
 
 answers()
 if not ANSWERS_ALONE:
-    for part in (refusals, records, order, ranges, labels, versions, unknown_versions, later_versions, units, models, package, commands,
-                 questions, finding):
+    for part in (refusals, records, order, ranges, labels, gone_through, versions, unknown_versions, later_versions, units, models,
+                 package, commands, questions, finding):
         part()
 print(f"{passed} passed, {failed} failed")
 sys.exit(0 if passed and not failed else 1)
