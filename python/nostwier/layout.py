@@ -1,7 +1,7 @@
 """What stands in the two files, field by field, and how much there is of it, by version.
 
-Each line of the tables says of which versions it is; their order is the file's. The library judges the numbers; ends and units
-of ranges serve to name the field that it refuses.
+A line of the tables is of the versions that it names, or of all; the lines stand in the order of the files. The library judges
+the numbers: ends and units of ranges serve to name the field that it refuses.
 """
 
 import re
@@ -13,7 +13,7 @@ FILE_VERSIONS: Tuple[int, ...] = (1,)  # those that are known
 
 
 class Listed(NamedTuple):
-    """A curve, a quantity or a row of a resource: its name in records, and in words; of all versions, if it does not say."""
+    """A curve, a quantity or a row of a resource: its name in records, and in words."""
 
     key: str
     words: str
@@ -22,7 +22,7 @@ class Listed(NamedTuple):
 
 class Entry(NamedTuple):
     """A field of a part of a file: its path in the part's record (with '[]' at its end, one for each resource), its type as struct
-    has it, the ends and the unit of its range; of all versions, if it does not say."""
+    has it, the ends and the unit of its range."""
 
     path: str
     letter: str
