@@ -34,9 +34,10 @@ static void take_file(struct file *to, const char *path)
     fclose(from);
 }
 
-/* ---- What rows, quantities and charges are called. All are counted from 0 here. */
+/* ---- What rows, quantities and charges of version 1 are called. All are counted from 0 here. */
 
-struct counts {
+struct head { /* of a case, its bytes 4 to 7 */
+    uint8_t version;
     size_t resources, zones, flowgates;
 };
 
@@ -45,53 +46,65 @@ static const char *const services[] = {"energy e", "regulating g", "contingency 
                                        "off-line short-term o"};
 static const char *const limits[] = {"e+g+c <= MAX", "e+s <= MAX", "e-g >= MIN", "e <= HI", "e >= LO"};
 
+enum {
+    CURVES = sizeof curves / sizeof *curves,
+    SERVICES = sizeof services / sizeof *services,
+    LIMITS = sizeof limits / sizeof *limits,
+    CURVE_STEPS = 4,
+    ENERGY_STEPS = 10,
+    OF_RESOURCE = ENERGY_STEPS + SERVICES - 1 /* charges of a resource's quantities: its steps stand for energy */
+};
+
 struct label {
     char text[80];
 };
 
-static struct label row_label(struct counts n, size_t row)
+static struct label row_label(struct head n, size_t row)
 {
     struct label label;
-    size_t zones = 5, flowgates = zones + 4 * n.zones, resources = flowgates + n.flowgates;
+    size_t zones = 1 + CURVES, flowgates = zones + CURVES * n.zones, resources = flowgates + n.flowgates;
     if (row == 0)
         snprintf(label.text, sizeof label.text, "energy equals demand");
     else if (row < zones)
         snprintf(label.text, sizeof label.text, "market-wide %s reserve", curves[row - 1]);
     else if (row < flowgates)
-        snprintf(label.text, sizeof label.text, "zone %zu: %s reserve", (row - zones) / 4 + 1, curves[(row - zones) % 4]);
+        snprintf(label.text, sizeof label.text, "zone %zu: %s reserve", (row - zones) / CURVES + 1,
+                 curves[(row - zones) % CURVES]);
     else if (row < resources)
         snprintf(label.text, sizeof label.text, "flowgate %zu", row - flowgates + 1);
     else
-        snprintf(label.text, sizeof label.text, "resource %zu: %s", (row - resources) / 5 + 1, limits[(row - resources) % 5]);
+        snprintf(label.text, sizeof label.text, "resource %zu: %s", (row - resources) / LIMITS + 1,
+                 limits[(row - resources) % LIMITS]);
     return label;
 }
 
 static struct label quantity_label(size_t quantity)
 {
     struct label label;
-    if (quantity < 4)
+    if (quantity < CURVES)
         snprintf(label.text, sizeof label.text, "cleared %s reserve", curves[quantity]);
     else
-        snprintf(label.text, sizeof label.text, "resource %zu: %s", (quantity - 4) / 5 + 1, services[(quantity - 4) % 5]);
+        snprintf(label.text, sizeof label.text, "resource %zu: %s", (quantity - CURVES) / SERVICES + 1,
+                 services[(quantity - CURVES) % SERVICES]);
     return label;
 }
 
-static struct label charge_label(struct counts n, size_t charge)
+static struct label charge_label(struct head n, size_t charge)
 {
     struct label label;
-    size_t rows = NOSTWIER_ROWS(n.resources, n.zones, n.flowgates), steps = rows + 14 * n.resources;
+    size_t rows = NOSTWIER_ROWS(n.version, n.resources, n.zones, n.flowgates), steps = rows + OF_RESOURCE * n.resources;
     if (charge < rows) {
         struct label row = row_label(n, charge);
         snprintf(label.text, sizeof label.text, "row %zu, %.60s", charge + 1, row.text);
     } else if (charge >= steps) {
         charge -= steps;
-        snprintf(label.text, sizeof label.text, "%s curve: step %zu", curves[charge / 4], charge % 4 + 1);
+        snprintf(label.text, sizeof label.text, "%s curve: step %zu", curves[charge / CURVE_STEPS], charge % CURVE_STEPS + 1);
     } else {
-        charge -= rows;
-        if (charge % 14 < 10)
-            snprintf(label.text, sizeof label.text, "resource %zu: energy step %zu", charge / 14 + 1, charge % 14 + 1);
+        size_t resource = (charge - rows) / OF_RESOURCE + 1, part = (charge - rows) % OF_RESOURCE;
+        if (part < ENERGY_STEPS)
+            snprintf(label.text, sizeof label.text, "resource %zu: energy step %zu", resource, part + 1);
         else
-            snprintf(label.text, sizeof label.text, "resource %zu: %s", charge / 14 + 1, services[charge % 14 - 9]);
+            snprintf(label.text, sizeof label.text, "resource %zu: %s", resource, services[part - ENERGY_STEPS + 1]);
     }
     return label;
 }
@@ -128,11 +141,11 @@ static int larger_first(const void *left, const void *right)
     return a < b ? -1 : a > b;
 }
 
-static void print_charges(struct counts n, size_t most)
+static void print_charges(struct head n, size_t most)
 {
     static size_t order[NOSTWIER_MOST_CHARGES];
     size_t count = 0;
-    for (size_t i = 0; i < NOSTWIER_CHARGES(n.resources, n.zones, n.flowgates); i++)
+    for (size_t i = 0; i < NOSTWIER_CHARGES(n.version, n.resources, n.zones, n.flowgates); i++)
         if (charges[i] > 0)
             order[count++] = i;
     qsort(order, count, sizeof *order, larger_first);
@@ -145,7 +158,7 @@ static void print_charges(struct counts n, size_t most)
 /* ---- The host. */
 
 /* Says why a pair was refused, and what to do; ends the program. */
-static void refused(struct counts n, uint32_t refusal, uint32_t place)
+static void refused(struct head n, uint32_t refusal, uint32_t place)
 {
     printf("refused %" PRIu32, refusal);
     if (place > 0)
@@ -170,8 +183,8 @@ int main(int argc, char **argv)
     take_file(&c, argv[1]);
     take_file(&q, argv[2]);
 
-    /* The counts are there to be relied on once the case is valid, so in refusals 13 and 14 too. */
-    struct counts n = {c.bytes[5], c.bytes[6], c.bytes[7]};
+    /* Version and counts are there to be relied on once the case is valid, so in refusals 13 and 14 too. */
+    struct head n = {c.bytes[4], c.bytes[5], c.bytes[6], c.bytes[7]};
     nostwier_result result = nostwier_check_certificate(c.bytes, c.length, q.bytes, q.length);
     if (result.refusal != NOSTWIER_ACCEPTED)
         refused(n, result.refusal, result.place);

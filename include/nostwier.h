@@ -21,36 +21,44 @@
 #include <stddef.h>
 #include <stdint.h>
 
-/* The version. Within one first number, the interface that is there stays as it is; the second number rises where a rule of the
- * market changes, and with it an answer. */
-#define NOSTWIER_VERSION "1.3.0"
+/* The version of the library. Within one first number the functions that are there stay as they are, so that a host that is
+ * built goes on with a newer shared library. The second number rises where a rule of the market changes, and with it an
+ * answer, or where a host's source must be edited before it is built again: since 1.4 the sizes are told a file's version. */
+#define NOSTWIER_VERSION "1.4.0"
 
 /* ---- Units. Power is in kW; prices of offers, curves and flowgates in cents per MWh, all other prices in thousandths of a
  * cent per MWh. Cost, bound, gap and charges are in grains, a thousandth of a cent per MWh times one kW: so many grains are
  * one dollar of a five-minute interval. */
 #define NOSTWIER_GRAINS_PER_DOLLAR INT64_C(1200000000)
 
-/* ---- Sizes, of a case with r resources, z zones and f flowgates. A file holds these three as its bytes 5, 6 and 7, counted
- * from 0; they are to be relied on once the file is accepted. */
+/* ---- Sizes, of files of a version with r resources, z zones and f flowgates. A file holds these four as its bytes 4 to 7,
+ * counted from 0; they are to be relied on once the file is accepted. Each size is a constant where its arguments are, and 0 for
+ * a version that this header does not know, which a newer library may accept. An argument may be evaluated more than once. */
 #define NOSTWIER_MOST_RESOURCES 64
 #define NOSTWIER_MOST_ZONES 8
 #define NOSTWIER_MOST_FLOWGATES 12
 
 /* Bytes of the two files. */
-#define NOSTWIER_CASE_BYTES(r, z, f) (170 + 16 * (size_t)(z) + 154 * (size_t)(r) + (size_t)(f) * (4 + 2 * (size_t)(r)))
-#define NOSTWIER_CERTIFICATE_BYTES(r, z, f) (44 + 16 * (size_t)(z) + 4 * (size_t)(f) + 40 * (size_t)(r))
+#define NOSTWIER_CASE_BYTES(version, r, z, f) \
+    ((version) == 1 ? 170 + 16 * (size_t)(z) + 154 * (size_t)(r) + (size_t)(f) * (4 + 2 * (size_t)(r)) : 0)
+#define NOSTWIER_CERTIFICATE_BYTES(version, r, z, f) \
+    ((version) == 1 ? 44 + 16 * (size_t)(z) + 4 * (size_t)(f) + 40 * (size_t)(r) : 0)
 
 /* Numbers that are read out of the files, and written into them: every field but length and version. */
-#define NOSTWIER_CASE_NUMBERS(r, z, f) (48 + 4 * (size_t)(z) + 43 * (size_t)(r) + (size_t)(f) * (1 + (size_t)(r)))
-#define NOSTWIER_CERTIFICATE_NUMBERS(r, z, f) (12 + 4 * (size_t)(z) + (size_t)(f) + 10 * (size_t)(r))
+#define NOSTWIER_CASE_NUMBERS(version, r, z, f) \
+    ((version) == 1 ? 48 + 4 * (size_t)(z) + 43 * (size_t)(r) + (size_t)(f) * (1 + (size_t)(r)) : 0)
+#define NOSTWIER_CERTIFICATE_NUMBERS(version, r, z, f) \
+    ((version) == 1 ? 12 + 4 * (size_t)(z) + (size_t)(f) + 10 * (size_t)(r) : 0)
 
-/* Rows of the case, and the numbers that the calls for prices and charges write. */
-#define NOSTWIER_ROWS(r, z, f) (5 + 4 * (size_t)(z) + (size_t)(f) + 5 * (size_t)(r))
+/* Rows of the case, and the numbers that the calls for prices and charges write. Prices are as many in every version. */
+#define NOSTWIER_ROWS(version, r, z, f) \
+    ((version) == 1 ? 5 + 4 * (size_t)(z) + (size_t)(f) + 5 * (size_t)(r) : 0)
 #define NOSTWIER_PRICES(r, z) ((size_t)(r) + 4 * (size_t)(z))
-#define NOSTWIER_CHARGES(r, z, f) (21 + 4 * (size_t)(z) + (size_t)(f) + 19 * (size_t)(r))
+#define NOSTWIER_CHARGES(version, r, z, f) \
+    ((version) == 1 ? 21 + 4 * (size_t)(z) + (size_t)(f) + 19 * (size_t)(r) : 0)
 
 /* The same of the largest case: buffers of these sizes are long enough for any. */
-#define NOSTWIER_OF_MOST(size) size(NOSTWIER_MOST_RESOURCES, NOSTWIER_MOST_ZONES, NOSTWIER_MOST_FLOWGATES)
+#define NOSTWIER_OF_MOST(size) size(1, NOSTWIER_MOST_RESOURCES, NOSTWIER_MOST_ZONES, NOSTWIER_MOST_FLOWGATES)
 #define NOSTWIER_MOST_CASE_BYTES NOSTWIER_OF_MOST(NOSTWIER_CASE_BYTES)
 #define NOSTWIER_MOST_CERTIFICATE_BYTES NOSTWIER_OF_MOST(NOSTWIER_CERTIFICATE_BYTES)
 #define NOSTWIER_MOST_CASE_NUMBERS NOSTWIER_OF_MOST(NOSTWIER_CASE_NUMBERS)
@@ -123,8 +131,8 @@ nostwier_answer nostwier_prices(const uint8_t *c, size_t cn, const uint8_t *q, s
 /* ---- The charges. */
 #define NOSTWIER_HAS_CHARGES
 
-/* Writes the charges of an accepted certificate to the n numbers at out: NOSTWIER_CHARGES(r, z, f) of them, one for each
- * row, in the order of rows; then for each resource its ten energy steps, regulating, contingency, on-line short-term and
+/* Writes the charges of an accepted certificate to the n numbers at out: NOSTWIER_CHARGES(version, r, z, f) of them, one for
+ * each row, in the order of rows; then for each resource its ten energy steps, regulating, contingency, on-line short-term and
  * off-line short-term; then the four steps of each of the four curves. None is negative and their sum is the gap: they say
  * where the gap comes from. In grains. Refused by 1 to 14, then by 15 if n is too small. */
 nostwier_answer nostwier_charges(const uint8_t *c, size_t cn, const uint8_t *q, size_t qn, int64_t *out, size_t n);
@@ -138,21 +146,22 @@ typedef struct {
     uint32_t refusal, count; /* count: the numbers or bytes written */
 } nostwier_count;
 
-/* Writes the NOSTWIER_CASE_NUMBERS(r, z, f) numbers of a valid case to the n numbers at out. Refused by 1 to 7, then by 15 if
- * n is too small. */
+/* Writes the NOSTWIER_CASE_NUMBERS(version, r, z, f) numbers of a valid case to the n numbers at out. Refused by 1 to 7, then
+ * by 15 if n is too small. */
 nostwier_count nostwier_read_case(const uint8_t *c, size_t cn, int64_t *out, size_t n);
 
-/* Writes the NOSTWIER_CERTIFICATE_NUMBERS(r, z, f) numbers of a certificate to the n numbers at out. No case is lent, so
- * neither prices nor quantities are judged. Refused by 8, 9, 3 and 11, in that order, then by 15 if n is too small. */
+/* Writes the NOSTWIER_CERTIFICATE_NUMBERS(version, r, z, f) numbers of a certificate to the n numbers at out. No case is lent,
+ * so neither prices nor quantities are judged. Refused by 8, 9, 3 and 11, in that order, then by 15 if n is too small. */
 nostwier_count nostwier_read_certificate(const uint8_t *q, size_t qn, int64_t *out, size_t n);
 
-/* Writes the case of the n numbers at v to the len bytes at out: NOSTWIER_CASE_BYTES(r, z, f) of them, a valid case. Refused
- * by 16 if n is under three; by 3; by 16 if the list is not as long as r, z and f need or a number does not fit its field; by 5,
- * 6 and 7 as the case would be; then by 15 if len is too small. */
+/* Writes the case of the n numbers at v to the len bytes at out: NOSTWIER_CASE_BYTES(1, r, z, f) of them, a valid case of
+ * version 1. Refused by 16 if n is under three; by 3; by 16 if the list is not as long as r, z and f need or a number does not
+ * fit its field; by 5, 6 and 7 as the case would be; then by 15 if len is too small. */
 nostwier_count nostwier_write_case(const int64_t *v, size_t n, uint8_t *out, size_t len);
 
-/* Writes the certificate of the n numbers at v to the len bytes at out: NOSTWIER_CERTIFICATE_BYTES(r, z, f) of them. Whether a
- * case accepts it, the check says. Refused by 16 if n is under three; by 3; by 16 as above; then by 15 if len is too small. */
+/* Writes the certificate of the n numbers at v to the len bytes at out: NOSTWIER_CERTIFICATE_BYTES(1, r, z, f) of them, of
+ * version 1. Whether a case accepts it, the check says. Refused by 16 if n is under three; by 3; by 16 as above; then by 15 if
+ * len is too small. */
 nostwier_count nostwier_write_certificate(const int64_t *v, size_t n, uint8_t *out, size_t len);
 
 #ifdef __cplusplus

@@ -33,8 +33,9 @@ from .calls import (
 )
 from .flowgates import FiledFlowgate, flowgate
 from .labels import Charge, Names, charge_labels, listed_charges, quantity_labels, row_labels
+from .layout import Counts, Sizes
 from .library import VERSION as __version__
-from .library import Counts, LibraryMissing
+from .library import LibraryMissing
 from .model import Figure, Part, Quantity, Row, State, Summary, parts, quantities, rows, summary
 from .records import (
     NO_TRIP,
@@ -68,7 +69,7 @@ __all__ = [
     "ADVICE", "Availability", "Breaker", "ByCurve", "Case", "Certificate", "Charge", "Counts", "Curves", "Dispatch", "Explained",
     "Field", "Figure", "FiledFlowgate", "Flags", "Flowgate", "GRAINS_PER_DOLLAR", "Kind", "LibraryMissing", "Limits", "MEANING",
     "Misfiled", "NO_TRIP", "Names", "Part", "Prices", "Quantity", "Refused", "Reserve", "Reserves", "Resource", "ResourceRows",
-    "Result", "Row", "RowPrices", "State", "Status", "Step", "Summary", "Zone", "ZonePrices", "__version__", "charge_labels",
+    "Result", "Row", "RowPrices", "Sizes", "State", "Status", "Step", "Summary", "Zone", "ZonePrices", "__version__", "charge_labels",
     "charges", "check_case", "check_certificate", "cite", "dollars", "explain", "explained", "flowgate", "listed_charges",
     "parts", "prices", "quantities", "quantity_labels", "read_case", "read_certificate", "row_labels", "rows", "summary",
     "write_case", "write_certificate",

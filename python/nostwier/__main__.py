@@ -7,10 +7,11 @@ import json
 import sys
 from typing import Callable, Dict, List, NamedTuple, Optional
 
-from . import calls, flowgates, model
+from . import calls, flowgates, layout, model
 from .explain import INTERVALS_AN_HOUR, as_dictionary, cite, explain, explained, summary_dictionary, summary_lines
 from .labels import Names
-from .library import MOST, VERSION, Counts, LibraryMissing
+from .layout import Counts
+from .library import VERSION, LibraryMissing
 from .records import Case, Certificate, Misfiled
 from .refusals import Refused
 from .units import dollars
@@ -42,8 +43,8 @@ def _read(path: str) -> bytes:
     except (OSError, ValueError) as error:
         raise Misuse(f"cannot read '{path}': {getattr(error, 'strerror', None) or error}") from None
     if len(content) > LARGEST:
-        raise Misfiled(f"'{path}' is above {LARGEST:,} bytes, and no case or certificate is above {MOST.case_bytes:,}: look whether it "
-                       "is another file")
+        raise Misfiled(f"'{path}' is above {LARGEST:,} bytes, and no case or certificate is above {layout.LARGEST.case_bytes:,}: "
+                       "look whether it is another file")
     return content
 
 

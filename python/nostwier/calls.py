@@ -7,7 +7,7 @@ from typing import TYPE_CHECKING, Iterable, List, NamedTuple, Optional, Union
 
 from . import library, messages
 from .labels import Names
-from .library import MOST, Counts
+from .layout import LARGEST, MOST, Counts
 from .refusals import Refused
 
 if TYPE_CHECKING:
@@ -59,34 +59,36 @@ def check_certificate(case: "CaseFile", certificate: "CertificateFile", names: O
 
 def prices(case: "CaseFile", certificate: "CertificateFile") -> Prices:
     """The Prices of an accepted certificate."""
-    counts, numbers = _list("nostwier_prices", case, certificate, lambda counts: counts.prices)
-    zones = numbers[counts.resources:]
-    return Prices(numbers[:counts.resources], [ZonePrices(*zones[i:i + 4]) for i in range(0, len(zones), 4)])
+    file, room = _list("nostwier_prices", case, certificate, MOST.prices)
+    counts = Counts.of_file(file)
+    zones = room[counts.resources:counts.prices]
+    return Prices(room[:counts.resources], [ZonePrices(*zones[i:i + 4]) for i in range(0, len(zones), 4)])
 
 
 def charges(case: "CaseFile", certificate: "CertificateFile") -> List[int]:
     """The charges of an accepted certificate, in grains: rows, the resources' quantities, curve steps."""
-    return _list("nostwier_charges", case, certificate, lambda counts: counts.charges)[1]
+    file, room = _list("nostwier_charges", case, certificate, LARGEST.charges)
+    return room[:Counts.of_file(file).sizes(file[4]).charges]
 
 
 def read_case(case: "CaseFile") -> List[int]:
     """The numbers of a valid case: every field but length and version, in the file's order."""
-    return _read("nostwier_read_case", case, MOST.case_numbers, True)
+    return _read("nostwier_read_case", case, LARGEST.case_numbers, True)
 
 
 def read_certificate(certificate: "CertificateFile") -> List[int]:
     """The numbers of a certificate: every field but length and version, in the file's order."""
-    return _read("nostwier_read_certificate", certificate, MOST.certificate_numbers, False)
+    return _read("nostwier_read_certificate", certificate, LARGEST.certificate_numbers, False)
 
 
 def write_case(numbers: Iterable[int]) -> bytes:
-    """The file of a case with these numbers."""
-    return _write("nostwier_write_case", numbers, MOST.case_bytes)
+    """The file, of version 1, of a case with these numbers."""
+    return _write("nostwier_write_case", numbers, LARGEST.case_bytes)
 
 
 def write_certificate(numbers: Iterable[int]) -> bytes:
-    """The file of a certificate with these numbers."""
-    return _write("nostwier_write_certificate", numbers, MOST.certificate_bytes)
+    """The file, of version 1, of a certificate with these numbers."""
+    return _write("nostwier_write_certificate", numbers, LARGEST.certificate_bytes)
 
 
 def as_file(file: Union["CaseFile", "CertificateFile"]) -> bytes:
@@ -112,13 +114,12 @@ def _look(answer, case, certificate, names=Names()):
 
 
 def _list(name, case, certificate, size):
-    """The counts of a case, and the numbers that a call writes for it."""
+    """The file of a case, and a buffer of so many numbers into which a call has written for it."""
     files = as_file(case), as_file(certificate)
-    room = (ctypes.c_int64 * size(MOST))()
+    room = (ctypes.c_int64 * size)()
     answer = library.function(name)(files[0], len(files[0]), files[1], len(files[1]), room, len(room))
     _look(answer, *files, _names(case, None))
-    counts = Counts.of_file(files[0])
-    return counts, room[:size(counts)]
+    return files[0], room
 
 
 def _read(name, given, size, is_case):

@@ -7,7 +7,7 @@ from typing import TYPE_CHECKING, Any, Dict, List, NamedTuple, Optional
 from . import calls, model
 from .labels import Charge, Names, listed_charges
 from .library import VERSION
-from .records import ByCurve, Case, Certificate, ResourceRows
+from .records import Case, Certificate
 from .refusals import Refused
 from .units import dollars
 
@@ -34,7 +34,7 @@ def explained(case: "CaseFile", certificate: "CertificateFile", names: Optional[
     case_record = case if isinstance(case, Case) else Case.from_bytes(case)
     record = certificate if isinstance(certificate, Certificate) else Certificate.from_bytes(certificate)
     names = case_record.names if names is None else names
-    charges = listed_charges(case_record.counts, calls.charges(case, certificate), names)
+    charges = listed_charges(case_record.counts, calls.charges(case, certificate), names, case_record.version)
     return Explained(result, calls.prices(case, certificate), [charge for charge in charges if charge.grains],
                      model.parts(case_record, record), model.summary(case_record, names), _questions(case, record, result.gap))
 
@@ -164,9 +164,12 @@ def _questions(case, certificate, gap):
 
 def _with_prices(certificate, change, energy):
     """A certificate with changed prices of rows, but of flowgates."""
+
+    def changed(prices):
+        return type(prices)(**{name: change(price) for name, price in vars(prices).items()})
+
     prices = certificate.row_prices
-    return Certificate(
-        dataclasses.replace(prices, energy=energy, market=ByCurve(*map(change, prices.market)),
-                            zones=[ByCurve(*map(change, zone)) for zone in prices.zones]),
-        [dataclasses.replace(resource, row_prices=ResourceRows(*map(change, resource.row_prices))) for resource in certificate.resources],
-        certificate.cleared)
+    return dataclasses.replace(
+        certificate,
+        row_prices=dataclasses.replace(prices, energy=energy, market=changed(prices.market), zones=list(map(changed, prices.zones))),
+        resources=[dataclasses.replace(resource, row_prices=changed(resource.row_prices)) for resource in certificate.resources])

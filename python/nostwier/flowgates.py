@@ -34,7 +34,8 @@ import math
 from fractions import Fraction
 from typing import Iterable, NamedTuple, Optional, Sequence, Tuple, Union
 
-from .records import FLOWGATE_LIMIT, Flowgate, Misfiled
+from .layout import FLOWGATE_LIMIT
+from .records import Flowgate, Misfiled
 
 Number = Union[int, float, str, Fraction]  # a text is a decimal number
 HIGHEST = 10**12  # kW: beyond any system

@@ -4,9 +4,8 @@ import ctypes
 import ctypes.util
 import os
 from pathlib import Path
-from typing import NamedTuple
 
-VERSION = "1.3.0"  # NOSTWIER_VERSION of nostwier.h
+VERSION = "1.4.0"  # NOSTWIER_VERSION of nostwier.h
 VARIABLE = "NOSTWIER_LIBRARY"
 SONAME = "libnostwier.so.1"
 BUILD_TREE = Path(__file__).resolve().parents[2] / "target" / "lib" / SONAME
@@ -14,59 +13,6 @@ BUILD_TREE = Path(__file__).resolve().parents[2] / "target" / "lib" / SONAME
 
 class LibraryMissing(Exception):
     """The shared library was not found, or it is another one."""
-
-
-class Counts(NamedTuple):
-    """Numbers of resources, zones and flowgates, with the sizes that follow from them."""
-
-    resources: int
-    zones: int
-    flowgates: int
-
-    @classmethod
-    def of_file(cls, file: bytes) -> "Counts":
-        """The counts that a file announces, its bytes 5 to 7; ValueError if it is shorter."""
-        if len(file) < 8:
-            raise ValueError("a file of under 8 bytes announces no counts")
-        return cls(*file[5:8])
-
-    @property
-    def case_bytes(self) -> int:
-        """Bytes of a case."""
-        return 170 + 16 * self.zones + 154 * self.resources + self.flowgates * (4 + 2 * self.resources)
-
-    @property
-    def certificate_bytes(self) -> int:
-        """Bytes of a certificate."""
-        return 44 + 16 * self.zones + 4 * self.flowgates + 40 * self.resources
-
-    @property
-    def case_numbers(self) -> int:
-        """Numbers of a case: its fields but length and version."""
-        return 48 + 4 * self.zones + 43 * self.resources + self.flowgates * (1 + self.resources)
-
-    @property
-    def certificate_numbers(self) -> int:
-        """Numbers of a certificate."""
-        return 12 + 4 * self.zones + self.flowgates + 10 * self.resources
-
-    @property
-    def rows(self) -> int:
-        """Rows, each with its shadow price."""
-        return 5 + 4 * self.zones + self.flowgates + 5 * self.resources
-
-    @property
-    def prices(self) -> int:
-        """Prices that the call for prices writes: an LMP a resource, four a zone."""
-        return self.resources + 4 * self.zones
-
-    @property
-    def charges(self) -> int:
-        """Charges that the call for charges writes."""
-        return 21 + 4 * self.zones + self.flowgates + 19 * self.resources
-
-
-LEAST, MOST = Counts(1, 1, 0), Counts(64, 8, 12)
 
 
 class ResultRecord(ctypes.Structure):

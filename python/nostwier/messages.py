@@ -8,8 +8,8 @@ from typing import Optional
 
 from . import model
 from .enums import Kind
-from .labels import CURVE_KEYS, CURVES, Names, quantity_labels, row_labels
-from .library import Counts
+from .labels import Names, quantity_labels, row_labels
+from .layout import CURVES, FILE_VERSIONS, POWER, QUANTITIES, Counts, of_version
 from .refusals import Refused
 
 TWO_31, TWO_32 = 2**31, 2**32
@@ -62,11 +62,13 @@ def _announced(file):
 
 
 def looks_like(file: Optional[bytes]) -> str:
-    """'case' or 'certificate' if a file has the form of one, else ''."""
+    """'case' or 'certificate' if a file has the form of one in some version, whatever its own is, else ''."""
     if file is None or len(file) < 8 or _announced(file) != len(file):
         return ""
-    counts = Counts.of_file(file)
-    return {counts.case_bytes: "case", counts.certificate_bytes: "certificate"}.get(len(file), "")
+    forms = {}
+    for sizes in map(Counts.of_file(file).sizes, FILE_VERSIONS):
+        forms.update({sizes.case_bytes: "case", sizes.certificate_bytes: "certificate"})
+    return forms.get(len(file), "")
 
 
 def _of_form(number, file, other, is_case):
@@ -87,7 +89,8 @@ def _of_form(number, file, other, is_case):
         where = f"it has {counts.resources} resources, {counts.zones} zones and {counts.flowgates} flowgates"
     else:
         counts = Counts.of_file(file)
-        needed = counts.case_bytes if is_case else counts.certificate_bytes
+        sizes = counts.sizes(file[4])
+        needed = sizes.case_bytes if is_case else sizes.certificate_bytes
         where = (f"{size}, and {counts.resources} resources, {counts.zones} zones and {counts.flowgates} flowgates need {needed:,}")
     if looks_like(file) == wanted:
         if looks_like(other) == own:
@@ -111,18 +114,16 @@ def _is_text(file):
 
 
 def _of_fields(number, record, names):
-    from .records import POWER
-
     if number in (3, 5, 12, 16):
         prices = number == 12
         for entry in record.fields():
             if not entry.inside and (not prices or entry.unit not in ("kW", "")):
                 return Refused(number, where=_out(entry, names), question=_sign(entry) or _unit(entry))
     if number == 6:
-        for key, curve, steps in zip(CURVE_KEYS, CURVES, record.curves):
-            broken = _broken_step(steps, -1)
+        for curve in of_version(CURVES, record.version):
+            broken = _broken_step(getattr(record.curves, curve.key), -1)
             if broken:
-                return Refused(6, where=f"curves.{key}, the {curve} demand curve: {broken}")
+                return Refused(6, where=f"curves.{curve.key}, the {curve.words} demand curve: {broken}")
         for place, resource in enumerate(record.resources):
             steps = resource.energy_steps
             broken = _broken_step(steps, 1)
@@ -202,21 +203,22 @@ def _unit(entry):
 
 
 def _of_quantity(place, case, certificate, names):
-    labels = quantity_labels(case.counts, names)
+    labels = quantity_labels(case.counts, names, case.version)
     if not 0 < place <= len(labels):
         return Refused(13, place)
     amount, bound = model.quantities(case, certificate)[place - 1]
     where = f"{labels[place - 1]} is {amount:,} kW, and at most {bound.kw:,} kW is possible: {bound.why}"
     question = _question(amount, bound.kw)
-    if place > len(CURVES) and not question:
-        resource = case.resources[(place - len(CURVES) - 1) // len(model.QUANTITIES)]
+    cleared, provided = len(of_version(CURVES, case.version)), len(of_version(QUANTITIES, case.version))
+    if place > cleared and not question:
+        resource = case.resources[(place - cleared - 1) // provided]
         if resource.kind == Kind.conventional and 0 < abs(resource.estimated_output) < model.ON_LINE_OUTPUT:
             question = "Is the unit right? Power is in kW: is the estimated output in MW?"
     return Refused(13, place, where, question)
 
 
 def _of_row(place, case, certificate, names):
-    labels = row_labels(case.counts, names)
+    labels = row_labels(case.counts, names, case.version)
     if not 0 < place <= len(labels):
         return Refused(14, place)
     row = list(model.rows(case, certificate))[place - 1]

@@ -7,7 +7,8 @@ It serves messages alone. The library judges: no verdict and no number of an ans
 from typing import TYPE_CHECKING, Iterator, List, NamedTuple, Optional, Tuple
 
 from .enums import Availability, Breaker, Flags, Kind, Status
-from .labels import CURVE_STEPS, CURVES, ENERGY_STEPS, Names
+from .labels import Names
+from .layout import CURVE_STEPS, CURVES, ENERGY_STEPS, QUANTITIES, RESOURCE_ROWS, ZONE_REQUIREMENTS, of_version
 
 if TYPE_CHECKING:
     from .records import Case, Certificate, Resource
@@ -98,8 +99,8 @@ def state(case: "Case", number: int) -> State:
 def _tripped_state(resource):
     """Every upper bound is 0; the limits are an off-line resource's."""
     trip = f"it is tripped: it tripped {resource.minutes_since_trip} minutes ago, and more than {TRIP_MINUTES} are needed"
-    none = Figure(0, trip)
-    return State(Availability.tripped, [trip, *_missing(resource)], *_limits_without_output(resource, "tripped"), *[none] * 5, False)
+    limits, bounds = _limits_without_output(resource, "tripped"), {quantity.key: Figure(0, trip) for quantity in QUANTITIES}
+    return State(Availability.tripped, [trip, *_missing(resource)], *limits, spinning=False, **bounds)
 
 
 def _off_line_state(case, resource):
@@ -207,8 +208,6 @@ def _least(figures, before):
 
 # ---- Quantities and rows of a certificate.
 
-QUANTITIES = ("e", "g", "c", "s", "o")
-
 
 class Quantity(NamedTuple):
     """A quantity of a certificate: how much, and at most how much with the reason."""
@@ -219,10 +218,11 @@ class Quantity(NamedTuple):
 
 def quantities(case: "Case", certificate: "Certificate") -> List[Quantity]:
     """Each quantity of a certificate with its bound, place 1 first."""
-    cleared = [Quantity(amount, Figure(sum(step.width for step in steps), "the sum of the widths of its curve's steps"))
-               for amount, steps in zip(certificate.cleared, case.curves)]
-    return cleared + [Quantity(getattr(dispatch, name), getattr(its, name))
-                      for its, dispatch in zip(states(case), certificate.resources) for name in QUANTITIES]
+    cleared = [Quantity(getattr(certificate.cleared, curve.key),
+                        Figure(sum(step.width for step in getattr(case.curves, curve.key)), "the sum of the widths of its curve's steps"))
+               for curve in of_version(CURVES, case.version)]
+    return cleared + [Quantity(getattr(dispatch, quantity.key), getattr(its, quantity.key))
+                      for its, dispatch in zip(states(case), certificate.resources) for quantity in of_version(QUANTITIES, case.version)]
 
 
 class Row(NamedTuple):
@@ -246,36 +246,62 @@ class Row(NamedTuple):
         return self.slack == 0 if self.sense == "=" else self.slack >= 0
 
 
+GIVEN = {  # what counts towards the reserve of each curve
+    "operating": "g+c", "regulating_plus_spinning": "g and the c that is spinning", "regulating": "g", "short_term": "s+o",
+}
+
+
+class Provided(NamedTuple):
+    """A resource's reserves, scheduled or at most, in kW."""
+
+    g: int
+    c: int
+    s: int
+    o: int
+    spinning: bool
+
+
+def _given(provided):
+    """What resources give to the reserve of each curve."""
+    return {
+        "operating": sum(p.g + p.c for p in provided),
+        "regulating_plus_spinning": sum(p.g + (p.c if p.spinning else 0) for p in provided),
+        "regulating": sum(p.g for p in provided),
+        "short_term": sum(p.s + p.o for p in provided),
+    }
+
+
 def rows(case: "Case", certificate: "Certificate") -> Iterator[Row]:
     """Each row with its two sides, row 1 first."""
-    its = states(case)
-    dispatch = certificate.resources
+    its, dispatch = states(case), certificate.resources
     yield Row("the energy of all resources", sum(d.e for d in dispatch), "=", "the demand", case.demand)
-    zone_of = [resource.zone for resource in case.resources]
-
-    def given(chosen):
-        return [
-            ("g+c", sum(d.g + d.c for d, _ in chosen)),
-            ("g and the c that is spinning", sum(d.g + (d.c if s.spinning else 0) for d, s in chosen)),
-            ("g", sum(d.g for d, _ in chosen)),
-            ("s+o", sum(d.s + d.o for d, _ in chosen)),
-        ]
-
-    for (words, left), right in zip(given(list(zip(dispatch, its))), certificate.cleared):
-        yield Row(f"{words} of all resources", left, ">=", "the cleared quantity", right)
+    provided = [Provided(d.g, d.c, d.s, d.o, s.spinning) for d, s in zip(dispatch, its)]
+    given = _given(provided)
+    for curve in of_version(CURVES, case.version):
+        yield Row(f"{GIVEN[curve.key]} of all resources", given[curve.key], ">=", "the cleared quantity",
+                  getattr(certificate.cleared, curve.key))
     for number, zone in enumerate(case.zones, 1):
-        chosen = [(d, s) for d, s, where in zip(dispatch, its, zone_of) if where == number]
-        for (words, left), right in zip(given(chosen), zone):
-            yield Row(f"{words} of the zone's resources", left, ">=", "the zone's requirement", right)
+        given = _given([p for p, resource in zip(provided, case.resources) if resource.zone == number])
+        for required in of_version(ZONE_REQUIREMENTS, case.version):
+            yield Row(f"{GIVEN[required.key]} of the zone's resources", given[required.key], ">=", "the zone's requirement",
+                      getattr(zone, required.key))
     for flowgate in case.flowgates:
         flow = sum(factor * d.e for factor, d in zip(flowgate.shift_factors, dispatch))
         yield Row("the flow", flow, "<=", "the limit", 1000 * flowgate.limit, 1000)
     for d, s in zip(dispatch, its):
-        yield Row("e+g+c", d.e + d.g + d.c, "<=", f"MAX, {s.maximum.why},", s.maximum.kw)
-        yield Row("e+s", d.e + d.s, "<=", f"MAX, {s.maximum.why},", s.maximum.kw)
-        yield Row("e-g", d.e - d.g, ">=", f"MIN, {s.minimum.why},", s.minimum.kw)
-        yield Row("e", d.e, "<=", f"HI, {s.hi.why},", s.hi.kw)
-        yield Row("e", d.e, ">=", f"LO, {s.lo.why},", s.lo.kw)
+        limits = _resource_rows(d, s)
+        yield from (limits[row.key] for row in of_version(RESOURCE_ROWS, case.version))
+
+
+def _resource_rows(d, s):
+    """The rows of a resource, by their names."""
+    return {
+        "within_max": Row("e+g+c", d.e + d.g + d.c, "<=", f"MAX, {s.maximum.why},", s.maximum.kw),
+        "short_term_within_max": Row("e+s", d.e + d.s, "<=", f"MAX, {s.maximum.why},", s.maximum.kw),
+        "above_min": Row("e-g", d.e - d.g, ">=", f"MIN, {s.minimum.why},", s.minimum.kw),
+        "within_hi": Row("e", d.e, "<=", f"HI, {s.hi.why},", s.hi.kw),
+        "above_lo": Row("e", d.e, ">=", f"LO, {s.lo.why},", s.lo.kw),
+    }
 
 
 # ---- Price and amount behind each charge.
@@ -303,36 +329,45 @@ def _part(net, amount, bound):
 
 def parts(case: "Case", certificate: "Certificate") -> List[Part]:
     """Price and amount behind each charge, in the order of charges."""
-    its = states(case)
-    prices = certificate.prices_of_rows()
-    parts = [Part("slack", price, row.slack, row.divisor) for price, row in zip(prices, rows(case, certificate))]
-    market = list(certificate.row_prices.market)
-    for resource, s, d, factors in zip(case.resources, its, certificate.resources, _factors(case)):
-        own = [price + zone for price, zone in zip(market, certificate.row_prices.zones[resource.zone - 1])]
-        within_max, short_within_max, above_min, within_hi, above_lo = d.row_prices
-        flow = sum(price * factor for price, factor in zip(certificate.row_prices.flowgates, factors))
-        energy = certificate.row_prices.energy - flow - within_max - short_within_max + above_min - within_hi + above_lo
-        left = d.e
-        for step in _padded(resource.energy_steps, ENERGY_STEPS):
-            used = min(left, step.width)
-            left -= used
-            parts.append(_part(1000 * step.price - energy, used, step.width if s.on_line else 0))
-        parts.append(_part(1000 * resource.regulating_price - sum(own[:3]) + within_max + above_min, d.g, s.g.kw))
-        spinning = own[1] if s.spinning else 0
-        parts.append(_part(1000 * resource.contingency_price - own[0] - spinning + within_max, d.c, s.c.kw))
-        parts.append(_part(short_within_max - own[3], d.s, s.s.kw))
-        parts.append(_part(1000 * resource.off_line_short_term_price - own[3], d.o, s.o.kw))
-    for price, cleared, steps in zip(market, certificate.cleared, case.curves):
-        left = cleared
-        for step in _padded(steps, CURVE_STEPS):
-            used = min(left, step.width)
-            left -= used
-            parts.append(_part(price - 1000 * step.price, used, step.width))
+    prices = certificate.row_prices
+    parts = [Part("slack", price, row.slack, row.divisor)
+             for price, row in zip(certificate.prices_of_rows(), rows(case, certificate))]
+    for place, (resource, s, d) in enumerate(zip(case.resources, states(case), certificate.resources)):
+        lmp = prices.energy - sum(price * flowgate.shift_factors[place] for price, flowgate in zip(prices.flowgates, case.flowgates))
+        zone = prices.zones[resource.zone - 1]
+        reserve = {required.key: getattr(prices.market, required.key) + getattr(zone, required.key)
+                   for required in of_version(ZONE_REQUIREMENTS, case.version)}
+        net = _net_prices(resource, s.spinning, lmp, reserve, d.row_prices)
+        parts += _step_parts(resource.energy_steps, ENERGY_STEPS, d.e, net["e"], s.on_line)
+        parts += [_part(net[quantity.key], getattr(d, quantity.key), getattr(s, quantity.key).kw)
+                  for quantity in of_version(QUANTITIES, case.version) if quantity.key != "e"]
+    for curve in of_version(CURVES, case.version):
+        cleared, price = getattr(certificate.cleared, curve.key), getattr(prices.market, curve.key)
+        parts += _step_parts(getattr(case.curves, curve.key), CURVE_STEPS, cleared, lambda step: price - 1000 * step.price)
     return parts
 
 
-def _factors(case):
-    return [[flowgate.shift_factors[place] for flowgate in case.flowgates] for place in range(len(case.resources))]
+def _net_prices(resource, spinning, lmp, reserve, limits):
+    """The net price of each quantity of a resource; of energy that of a step. reserve: what each kind of reserve is paid in the
+    resource's zone, market and zone price together."""
+    energy = lmp - limits.within_max - limits.short_term_within_max + limits.above_min - limits.within_hi + limits.above_lo
+    regulating = reserve["operating"] + reserve["regulating_plus_spinning"] + reserve["regulating"]
+    contingency = reserve["operating"] + (reserve["regulating_plus_spinning"] if spinning else 0)
+    return {
+        "e": lambda step: 1000 * step.price - energy,
+        "g": 1000 * resource.regulating_price - regulating + limits.within_max + limits.above_min,
+        "c": 1000 * resource.contingency_price - contingency + limits.within_max,
+        "s": limits.short_term_within_max - reserve["short_term"],
+        "o": 1000 * resource.off_line_short_term_price - reserve["short_term"],
+    }
+
+
+def _step_parts(steps, count, amount, net, available=True):
+    """The parts of steps, which an amount fills in their order."""
+    for step in _padded(steps, count):
+        used = min(amount, step.width)
+        amount -= used
+        yield _part(net(step), used, step.width if available else 0)
 
 
 class _NoStep:
@@ -394,12 +429,12 @@ def _out_of_reach(its, names):
 def _short_zones(case, its, names):
     for number, zone in enumerate(case.zones, 1):
         chosen = [s for s, resource in zip(its, case.resources) if resource.zone == number]
-        can = (sum(s.g.kw + s.c.kw for s in chosen), sum(s.g.kw + (s.c.kw if s.spinning else 0) for s in chosen),
-               sum(s.g.kw for s in chosen), sum(s.s.kw + s.o.kw for s in chosen))
-        for curve, requirement, kw in zip(CURVES, zone, can):
+        can = _given([Provided(s.g.kw, s.c.kw, s.s.kw, s.o.kw, s.spinning) for s in chosen])
+        for required in of_version(ZONE_REQUIREMENTS, case.version):
+            requirement, kw = getattr(zone, required.key), can[required.key]
             if requirement > kw:
-                yield (f"no schedule can meet the {curve} requirement of {names.of('zone', number)}, {requirement:,} kW: its resources "
-                       f"can give at most {kw:,} kW by their flags, ramps and shares{asks(requirement, kw, 'kW')}")
+                yield (f"no schedule can meet the {required.words} requirement of {names.of('zone', number)}, {requirement:,} kW: its "
+                       f"resources can give at most {kw:,} kW by their flags, ramps and shares{asks(requirement, kw, 'kW')}")
 
 
 def _odd_units(case, offers):

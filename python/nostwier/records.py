@@ -1,7 +1,8 @@
 """A case and a certificate with named fields, from a dictionary or JSON and back, from a file's bytes and back.
 
 In dictionaries and JSON a field has the name that it has here. Kind, status and flags are written by their names; 'name' and
-'note' are free text that no file carries. Fields with a default may be left out. Numbers are whole.
+'note' are free text that no file carries. Fields with a default may be left out. Numbers are whole. Which field stands where in a
+file of which version, layout says.
 """
 
 import json
@@ -9,12 +10,13 @@ import operator
 import os
 import struct
 from dataclasses import MISSING, dataclass, field, fields
-from typing import Any, Callable, Dict, Iterator, List, NamedTuple, Type, TypeVar, Union
+from functools import lru_cache
+from typing import Any, Callable, ClassVar, Dict, Iterator, List, NamedTuple, Tuple, Type, TypeVar, Union
 
-from . import calls, messages, model
+from . import calls, layout, messages, model
 from .enums import NO_TRIP, Availability, Breaker, Flags, Kind, Status
-from .labels import CURVE_KEYS, CURVE_STEPS, CURVES, ENERGY_STEPS, RESOURCE_ROWS, Names
-from .library import LEAST, MOST, Counts
+from .labels import Names
+from .layout import CURVE_STEPS, CURVES, ENERGY_STEPS, FILE_VERSIONS, LEAST, MOST, RESOURCE_ROWS, ZONE_REQUIREMENTS, Counts, of_version
 from .refusals import Refused
 
 
@@ -22,12 +24,13 @@ class Misfiled(ValueError):
     """A dictionary or JSON text that is no case or certificate: says where, and what is wanted."""
 
 
-# ---- Forms: how a value is taken out of a dictionary, and put into one.
+# ---- Forms: how a value is taken out of a dictionary, put into one, and made of a file's numbers.
 
 
 class Form(NamedTuple):
     take: Callable[[Any, str], Any]  # (value, where) to the field's value
     give: Callable[[Any], Any]  # the field's value to one of JSON
+    read: Callable[[Any, Any], Any] = lambda at, numbers: numbers[at]  # (layout.shape of it, a file's numbers) to the field's value
 
 
 def _wrong(where, what):
@@ -71,7 +74,8 @@ def _named(names):
             return names[value]
         return _take_whole(value, where)
 
-    return Form(take, lambda value: names(value).name if value in list(names) else int(value))
+    return Form(take, lambda value: names(value).name if value in list(names) else int(value),
+                lambda at, numbers: names(numbers[at]) if numbers[at] in list(names) else numbers[at])
 
 
 def _bits(names):
@@ -92,7 +96,7 @@ def _bits(names):
     def give(value):
         return [bit.name for bit in names if value & bit] if 0 <= value <= known else int(value)
 
-    return Form(take, give)
+    return Form(take, give, lambda at, numbers: names(numbers[at]))
 
 
 def _list_of(form, most=None):
@@ -104,7 +108,7 @@ def _list_of(form, most=None):
             _wrong(where, f"at most {most} are possible, not {len(value)}")
         return [form.take(item, f"{where}[{place}]") for place, item in enumerate(value)]
 
-    return Form(take, lambda value: [form.give(item) for item in value])
+    return Form(take, lambda value: [form.give(item) for item in value], lambda at, numbers: [form.read(item, numbers) for item in at])
 
 
 def _record(cls):
@@ -113,7 +117,7 @@ def _record(cls):
     def take(value, where):
         if not isinstance(value, dict):
             _wrong(where, f"a dictionary is wanted, with {', '.join(_keys(cls))}")
-        known = {name: entry for entry in fields(cls) for name in (entry.name, entry.metadata["key"]) if name}
+        known = {name: entry for entry in _keys(cls).values() for name in (entry.name, entry.metadata["key"]) if name}
         taken = {}
         for key, item in value.items():
             if key == "note":
@@ -125,7 +129,7 @@ def _record(cls):
                 _wrong(where, f"the field '{entry.name}' is given twice, as '{entry.metadata['key']}' too")
             taken[entry.name] = entry.metadata["form"].take(item, f"{where}.{key}" if where else key)
         for key, entry in _keys(cls).items():
-            if key not in taken and entry.default is MISSING and entry.default_factory is MISSING:
+            if key not in taken and _wanted(entry):
                 _wrong(where, f"the field '{key}' is missing; it is a field of {cls.__name__}")
         return cls(**taken)
 
@@ -137,11 +141,22 @@ def _record(cls):
                 given[key] = entry.metadata["form"].give(item)
         return given
 
-    return Form(take, give)
+    def read(at, numbers):
+        # a list of nothing has no numbers
+        return cls(**{key: entry.metadata["form"].read(at.get(key, ()), numbers) for key, entry in _keys(cls).items()
+                      if key in at or _wanted(entry)})
+
+    return Form(take, give, read)
 
 
+@lru_cache(maxsize=None)
 def _keys(cls):
-    return {entry.name: entry for entry in fields(cls)}
+    """The fields of a class that dictionaries have too."""
+    return {entry.name: entry for entry in fields(cls) if "form" in entry.metadata}
+
+
+def _wanted(entry):
+    return entry.default is MISSING and entry.default_factory is MISSING
 
 
 def _field(form, default=MISSING, key=None):
@@ -195,15 +210,15 @@ class Reserves:
     short_term: Reserve = _field(_record(Reserve))
 
 
-class _FourCurves:
-    """One value for each of the four curves, which are gone through in their order."""
+class _EachCurve:
+    """One value for each of the curves, which are gone through in their order."""
 
     def __iter__(self):
-        return iter([getattr(self, key) for key in CURVE_KEYS])
+        return iter([getattr(self, key) for key in _keys(type(self)) if key != "name"])
 
 
 @dataclass
-class ByCurve(_FourCurves):
+class ByCurve(_EachCurve):
     """Quantities in kW, or prices in thousandths of a cent."""
 
     operating: int = _field(WHOLE, 0)
@@ -213,7 +228,7 @@ class ByCurve(_FourCurves):
 
 
 @dataclass
-class Zone(_FourCurves):
+class Zone(_EachCurve):
     """A zone's requirements, kW."""
 
     operating: int = _field(WHOLE, 0)
@@ -223,11 +238,24 @@ class Zone(_FourCurves):
     name: str = _field(TEXT, "")
 
 
-STEPS_OF_CURVE = _list_of(_record(Step), CURVE_STEPS)
+def _steps_of(most):
+    """A list of steps; those of a file that are width 0 at price 0 are left out at its end."""
+    form = _list_of(_record(Step), most)
+
+    def read(at, numbers):
+        steps = form.read(at, numbers)
+        while steps and steps[-1] == Step(0, 0):
+            steps.pop()
+        return steps
+
+    return form._replace(read=read)
+
+
+STEPS_OF_CURVE = _steps_of(CURVE_STEPS)
 
 
 @dataclass
-class Curves(_FourCurves):
+class Curves(_EachCurve):
     """The four demand curves."""
 
     operating: List[Step] = _field(STEPS_OF_CURVE, list)
@@ -249,7 +277,7 @@ class Resource:
     ramp_down: int = _field(WHOLE)
     ramp_rate: int = _field(WHOLE)
     initial_energy: int = _field(WHOLE)
-    energy_steps: List[Step] = _field(_list_of(_record(Step), ENERGY_STEPS))
+    energy_steps: List[Step] = _field(_steps_of(ENERGY_STEPS))
     name: str = _field(TEXT, "")
     status: Status = _field(_bits(Status), Status(0))
     minutes_since_trip: int = _field(TRIP, NO_TRIP)
@@ -283,22 +311,7 @@ class Flowgate:
     name: str = _field(TEXT, "")
 
 
-# ---- Fields of a file, in its order, with the ends of their ranges. The library judges them; these serve to name the
-# field that it refuses.
-
-POWER, MARKET_POWER, DEMAND, RAMP, FLOWGATE_LIMIT = 2_000_000, 8_000_000, 128_000_000, 400_000, 20_000_000
-OFFER_PRICE, ROW_PRICE = 400_000, 400_000_000
-KW, KW_A_MINUTE, CENTS, THOUSANDTHS_OF_A_CENT, THOUSANDTHS = (
-    "kW", "kW a minute", "cents per MWh", "thousandths of a cent", "thousandths")
-RESOURCE_FIELDS = [
-    ("estimated_output", -POWER, POWER, KW),
-    ("economic", 0, POWER, KW), ("regulating", 0, POWER, KW), ("emergency", 0, POWER, KW),
-    ("ramp_up", 0, RAMP, KW_A_MINUTE), ("ramp_down", 0, RAMP, KW_A_MINUTE), ("ramp_rate", 0, RAMP, KW_A_MINUTE),
-    ("initial_energy", 0, POWER, KW), ("off_line_response_limit", 0, POWER, KW), ("off_line_short_term_limit", 0, POWER, KW),
-    ("self_schedule", 0, POWER, KW),
-    ("regulating_price", 0, OFFER_PRICE, CENTS), ("contingency_price", 0, OFFER_PRICE, CENTS),
-    ("off_line_short_term_price", 0, OFFER_PRICE, CENTS),
-]
+# ---- Fields of a file.
 
 
 class Field(NamedTuple):
@@ -316,26 +329,16 @@ class Field(NamedTuple):
         return self.least <= self.number <= self.most
 
 
-def _step_fields(where, steps, count, most_width, least_price):
-    for place in range(count):
-        step = steps[place] if place < len(steps) else Step(0, 0)
-        yield Field(f"{where}[{place}].width", step.width, 0, most_width, KW)
-        yield Field(f"{where}[{place}].price", step.price, least_price, OFFER_PRICE, CENTS)
-
-
-def _resource_fields(where, resource, zones):
-    for name, least, most in [
-        ("kind", 1, 3), ("zone", 1, zones), ("breaker", 0, 1), ("status", 0, 15), ("minutes_since_trip", 0, 255), ("flags", 0, 255),
-    ]:
-        yield Field(f"{where}.{name}", getattr(resource, name), least, most)
-    for name, least, most, unit in RESOURCE_FIELDS:
-        value = getattr(resource, name)
-        if isinstance(value, Limits):
-            yield Field(f"{where}.{name}.minimum", value.minimum, least, most, unit)
-            yield Field(f"{where}.{name}.maximum", value.maximum, least, most, unit)
+def _at(record, path):
+    """What stands there in a record; 0 in a step that is not given."""
+    for step in path:
+        if isinstance(step, str):
+            record = getattr(record, step)
+        elif step < len(record):
+            record = record[step]
         else:
-            yield Field(f"{where}.{name}", value, least, most, unit)
-    yield from _step_fields(f"{where}.energy_steps", resource.energy_steps, ENERGY_STEPS, POWER, -OFFER_PRICE)
+            return 0
+    return record
 
 
 def _laid_out(value, indentation):
@@ -367,6 +370,10 @@ OneFiled = TypeVar("OneFiled", bound="Filed")
 
 class Filed:
     """What a case and a certificate have in common."""
+
+    FILE: ClassVar[str]  # as layout has it
+    COUNTED: ClassVar[Tuple[str, str, str]]  # where the lists of resources, zones and flowgates are
+    version: int
 
     @classmethod
     def from_dict(cls: Type[OneFiled], data: Dict[str, Any]) -> OneFiled:
@@ -421,22 +428,48 @@ class Filed:
         """From a file."""
         raise NotImplementedError
 
-    def fields(self) -> Iterator[Field]:
-        """Each field of the file but length and version, in its order."""
-        raise NotImplementedError
+    @classmethod
+    def unjudged(cls: Type[OneFiled], file: bytes) -> OneFiled:
+        """From a file of the right size, without the library, so that its numbers are not judged; ValueError if the size is
+        another, or the version is not known."""
+        counts = Counts.of_file(file)
+        if len(file) != getattr(counts.sizes(file[4]), f"{cls.FILE}_bytes"):
+            raise ValueError("the file is not of the size that its counts need")
+        return cls._of_numbers(struct.unpack(layout.START + layout.letters(cls.FILE, counts, file[4]), file), file[4])
+
+    @classmethod
+    def _of_numbers(cls, numbers, version):
+        record = _record(cls).read(layout.shape(cls.FILE, Counts(*numbers[:3]), version), numbers)
+        record.version = version
+        return record
+
+    def _written(self, write, refusal):
+        """The file that the library writes; of a version that is not known none, refused by the number that such a file is."""
+        if self.version not in FILE_VERSIONS:
+            raise Refused(refusal, where=f"its version is {self.version}")
+        numbers = self.numbers()
+        try:
+            return write(numbers)
+        except Refused as refused:
+            raise messages.of_record(refused.number, self) from None
 
     @property
     def counts(self) -> Counts:
         """How many resources, zones and flowgates there are."""
-        raise NotImplementedError
+        return Counts(*(len(_at(self, layout.path_of(where))) for where in self.COUNTED))
 
-    @staticmethod
-    def _letters(counts: Counts) -> str:
-        raise NotImplementedError
+    def fields(self) -> Iterator[Field]:
+        """Each field of the file but length and version, in its order, with the ends of its range; of a quantity they are what
+        its bytes hold, as its bound is in the case."""
+        counts = self.counts
+        for what, number, least, most in zip(self.COUNTED, counts, LEAST, MOST):
+            yield Field(f"the number of {what}", number, least, most)
+        for place in layout.places(self.FILE, counts, self.version):
+            yield Field(place.where, _at(self, place.path), place.least, place.most, place.unit)
 
     def misfits(self) -> Iterator[Field]:
         """The fields whose number their bytes do not hold."""
-        for entry, letter in zip(self.fields(), self._letters(self.counts)):
+        for entry, letter in zip(self.fields(), layout.letters(self.FILE, self.counts, self.version)):
             bits = 8 * struct.calcsize(">" + letter)
             least, most = (-(2**(bits - 1)), 2**(bits - 1) - 1) if letter.islower() else (0, 2**bits - 1)
             if not least <= entry.number <= most:
@@ -449,7 +482,8 @@ class Filed:
 
 @dataclass
 class Case(Filed):
-    """One Dispatch Interval. What is not given of a curve or of a resource's energy steps is width 0 at price 0."""
+    """One Dispatch Interval. What is not given of a curve or of a resource's energy steps is width 0 at price 0. The version is that
+    of its file, which dictionaries do not have."""
 
     demand: int = _field(WHOLE)
     reserves: Reserves = _field(_record(Reserves))
@@ -458,11 +492,10 @@ class Case(Filed):
     name: str = _field(TEXT, "")
     curves: Curves = _field(_record(Curves), Curves)
     flowgates: List[Flowgate] = _field(_list_of(_record(Flowgate)), list)
+    version: int = 1
 
-    @property
-    def counts(self) -> Counts:
-        """How many resources, zones and flowgates there are."""
-        return Counts(len(self.resources), len(self.zones), len(self.flowgates))
+    FILE = "case"
+    COUNTED = ("resources", "zones", "flowgates")
 
     def state(self, number: int) -> model.State:
         """On-line or not, MAX, MIN, HI, LO and upper bounds of a resource, by its number from 1, with their reasons."""
@@ -478,96 +511,25 @@ class Case(Filed):
         return Names([zone.name for zone in self.zones], [resource.name for resource in self.resources],
                      [flowgate.name for flowgate in self.flowgates])
 
-    def fields(self) -> Iterator[Field]:
-        """Each field of the file but length and version, in its order, with the ends of its range."""
-        for what, number, least, most in zip(("resources", "zones", "flowgates"), self.counts, LEAST, MOST):
-            yield Field(f"the number of {what}", number, least, most)
-        yield Field("demand", self.demand, 0, DEMAND, KW)
-        for name in ("contingency", "regulating", "short_term"):
-            reserve = getattr(self.reserves, name)
-            yield Field(f"reserves.{name}.multiplier", reserve.multiplier, 1, 5000, THOUSANDTHS)
-            yield Field(f"reserves.{name}.minutes", reserve.minutes, 1, 60)
-        for part, most, unit in (("share", 1000, THOUSANDTHS), ("requirement", MARKET_POWER, KW)):
-            for name in ("regulating", "contingency", "short_term"):
-                yield Field(f"reserves.{name}.{part}", getattr(getattr(self.reserves, name), part), 0, most, unit)
-        for curve, steps in zip(CURVE_KEYS, self.curves):
-            yield from _step_fields(f"curves.{curve}", steps, CURVE_STEPS, MARKET_POWER, 0)
-        for place, zone in enumerate(self.zones):
-            for curve, requirement in zip(CURVE_KEYS, zone):
-                yield Field(f"zones[{place}].{curve}", requirement, 0, POWER, KW)
-        for place, resource in enumerate(self.resources):
-            yield from _resource_fields(f"resources[{place}]", resource, len(self.zones))
-        for place, flowgate in enumerate(self.flowgates):
-            yield Field(f"flowgates[{place}].limit", flowgate.limit, -FLOWGATE_LIMIT, FLOWGATE_LIMIT, KW)
-            for other, factor in enumerate(flowgate.shift_factors):
-                yield Field(f"flowgates[{place}].shift_factors[{other}]", factor, -1000, 1000, THOUSANDTHS)
-
-    def to_bytes(self) -> bytes:
-        """The case as a file; refused by the library's number, with the first field that it is about."""
+    def numbers(self) -> List[int]:
+        """Every field but length and version, in the file's order."""
         for place, flowgate in enumerate(self.flowgates):
             if len(flowgate.shift_factors) != len(self.resources):
                 _wrong(f"flowgates[{place}].shift_factors", f"{len(self.resources)} are wanted, one for each resource")
         for place, resource in enumerate(self.resources):
             _at_most(f"resources[{place}].energy_steps", resource.energy_steps, ENERGY_STEPS)
-        for curve, steps in zip(CURVE_KEYS, self.curves):
-            _at_most(f"curves.{curve}", steps, CURVE_STEPS)
-        numbers = self.numbers()
-        try:
-            return calls.write_case(numbers)
-        except Refused as refusal:
-            raise messages.of_record(refusal.number, self) from None
+        for curve in of_version(CURVES, self.version):
+            _at_most(f"curves.{curve.key}", getattr(self.curves, curve.key), CURVE_STEPS)
+        return super().numbers()
+
+    def to_bytes(self) -> bytes:
+        """The case as a file; refused by the library's number, with the first field that it is about."""
+        return self._written(calls.write_case, 2)
 
     @classmethod
     def from_bytes(cls, file: bytes) -> "Case":
         """The case of a file; refused if it is not valid."""
-        return cls._of_numbers(calls.read_case(file))
-
-    @classmethod
-    def unjudged(cls, file: bytes) -> "Case":
-        """The case of a file of the right size, whose numbers are not judged; ValueError if the size is another."""
-        counts = Counts.of_file(file)
-        if len(file) != counts.case_bytes:
-            raise ValueError("the file is not of the size that its counts need")
-        return cls._of_numbers(struct.unpack(">5x" + cls._letters(counts), file))
-
-    @staticmethod
-    def _letters(counts: Counts) -> str:
-        """The type of each field, as struct has it."""
-        flowgate = "i" + "h" * counts.resources
-        return ("BBBI" + "H" * 9 + "I" * 35 + "IIII" * counts.zones
-                + ("B" * 6 + "i" + "I" * 16 + "Ii" * ENERGY_STEPS) * counts.resources + flowgate * counts.flowgates)
-
-    @classmethod
-    def _of_numbers(cls, numbers):
-        numbers = iter(numbers)
-
-        def take(count=1):
-            return [next(numbers) for _ in range(count)]
-
-        def steps(count):
-            taken = [Step(*take(2)) for _ in range(count)]
-            while taken and taken[-1] == Step(0, 0):
-                taken.pop()
-            return taken
-
-        r, z, f = take(3)
-        (demand,) = take()
-        pairs = {name: take(2) for name in ("contingency", "regulating", "short_term")}
-        shares = dict(zip(("regulating", "contingency", "short_term"), take(3)))
-        requirements = dict(zip(("regulating", "contingency", "short_term"), take(3)))
-        reserves = Reserves(**{name: Reserve(*pair, shares[name], requirements[name]) for name, pair in pairs.items()})
-        curves = Curves(*[steps(CURVE_STEPS) for _ in CURVES])
-        zones = [Zone(*take(4)) for _ in range(z)]
-        resources = []
-        for _ in range(r):
-            kind, zone, breaker, status, trip, flags = take(6)
-            values = {"kind": _known(Kind, kind), "zone": zone, "breaker": _known(Breaker, breaker), "status": Status(status),
-                      "minutes_since_trip": trip, "flags": Flags(flags)}
-            for name, *_ in RESOURCE_FIELDS:
-                values[name] = Limits(*take(2)) if name in ("economic", "regulating", "emergency") else take()[0]
-            resources.append(Resource(**values, energy_steps=steps(ENERGY_STEPS)))
-        flowgates = [Flowgate(take()[0], take(r)) for _ in range(f)]
-        return cls(demand, reserves, zones, resources, curves=curves, flowgates=flowgates)
+        return cls._of_numbers(calls.read_case(file), calls.as_file(file)[4])
 
 
 def _at_most(where, steps, most):
@@ -575,19 +537,18 @@ def _at_most(where, steps, most):
         _wrong(where, f"at most {most} are possible, not {len(steps)}")
 
 
-def _known(names, number):
-    return names(number) if number in list(names) else number
+ROW_WORDS = {row.key: row.words for row in RESOURCE_ROWS}
 
 
 @dataclass
 class ResourceRows:
     """The prices of a resource's five rows, in thousandths of a cent. A row's own words, as 'e <= HI', are taken for its name."""
 
-    within_max: int = _field(WHOLE, 0, RESOURCE_ROWS[0])
-    short_term_within_max: int = _field(WHOLE, 0, RESOURCE_ROWS[1])
-    above_min: int = _field(WHOLE, 0, RESOURCE_ROWS[2])
-    within_hi: int = _field(WHOLE, 0, RESOURCE_ROWS[3])
-    above_lo: int = _field(WHOLE, 0, RESOURCE_ROWS[4])
+    within_max: int = _field(WHOLE, 0, ROW_WORDS["within_max"])
+    short_term_within_max: int = _field(WHOLE, 0, ROW_WORDS["short_term_within_max"])
+    above_min: int = _field(WHOLE, 0, ROW_WORDS["above_min"])
+    within_hi: int = _field(WHOLE, 0, ROW_WORDS["within_hi"])
+    above_lo: int = _field(WHOLE, 0, ROW_WORDS["above_lo"])
 
     def __iter__(self) -> Iterator[int]:
         return iter([getattr(self, entry.name) for entry in fields(self)])
@@ -615,95 +576,33 @@ class RowPrices:
     flowgates: List[int] = _field(_list_of(WHOLE), list)
 
 
-U32 = 2**32 - 1
-
-
 @dataclass
 class Certificate(Filed):
-    """A proposed dispatch with its shadow prices."""
+    """A proposed dispatch with its shadow prices. The version is that of its file, which dictionaries do not have."""
 
     row_prices: RowPrices = _field(_record(RowPrices))
     resources: List[Dispatch] = _field(_list_of(_record(Dispatch)))
     cleared: ByCurve = _field(_record(ByCurve), ByCurve)
     name: str = _field(TEXT, "")
+    version: int = 1
 
-    @property
-    def counts(self) -> Counts:
-        """How many resources, zones and flowgates there are."""
-        return Counts(len(self.resources), len(self.row_prices.zones), len(self.row_prices.flowgates))
-
-    def fields(self) -> Iterator[Field]:
-        """Each field of the file but length and version, in its order, with the ends of its range; of a quantity they are what
-        its bytes hold, as its bound is in the case."""
-        lists = ("resources", "row_prices.zones", "row_prices.flowgates")
-        for what, number, least, most in zip(lists, self.counts, LEAST, MOST):
-            yield Field(f"the number of {what}", number, least, most)
-
-        def price(where, number):
-            return Field(where, number, 0, ROW_PRICE, THOUSANDTHS_OF_A_CENT)
-
-        for name, number in zip(CURVE_KEYS, self.cleared):
-            yield Field(f"cleared.{name}", number, 0, U32, KW)
-        yield Field("row_prices.energy", self.row_prices.energy, -ROW_PRICE, ROW_PRICE, THOUSANDTHS_OF_A_CENT)
-        for name, number in zip(CURVE_KEYS, self.row_prices.market):
-            yield price(f"row_prices.market.{name}", number)
-        for place, zone in enumerate(self.row_prices.zones):
-            for name, number in zip(CURVE_KEYS, zone):
-                yield price(f"row_prices.zones[{place}].{name}", number)
-        for place, number in enumerate(self.row_prices.flowgates):
-            yield Field(f"row_prices.flowgates[{place}]", number, 0, OFFER_PRICE, CENTS)
-        for place, resource in enumerate(self.resources):
-            for name in "egcso":
-                yield Field(f"resources[{place}].{name}", getattr(resource, name), 0, U32, KW)
-            for name in _keys(ResourceRows):
-                yield price(f"resources[{place}].row_prices.{name}", getattr(resource.row_prices, name))
-
-    @staticmethod
-    def _letters(counts: Counts) -> str:
-        """The type of each field, as struct has it."""
-        return "BBBIIIIiIIII" + "IIII" * counts.zones + "I" * counts.flowgates + "I" * 10 * counts.resources
+    FILE = "certificate"
+    COUNTED = ("resources", "row_prices.zones", "row_prices.flowgates")
 
     def to_bytes(self) -> bytes:
         """The certificate as a file; whether a case accepts it, the check says."""
-        numbers = self.numbers()
-        try:
-            return calls.write_certificate(numbers)
-        except Refused as refusal:
-            raise messages.of_record(refusal.number, self) from None
+        return self._written(calls.write_certificate, 9)
 
     @classmethod
     def from_bytes(cls, file: bytes) -> "Certificate":
         """The certificate of a file; neither its prices nor its quantities are judged."""
-        return cls._of_numbers(calls.read_certificate(file))
-
-    @classmethod
-    def unjudged(cls, file: bytes) -> "Certificate":
-        """The certificate of a file of the right size, without the library; ValueError if the size is another."""
-        counts = Counts.of_file(file)
-        if len(file) != counts.certificate_bytes:
-            raise ValueError("the file is not of the size that its counts need")
-        return cls._of_numbers(struct.unpack(">5x" + cls._letters(counts), file))
-
-    @classmethod
-    def _of_numbers(cls, numbers):
-        numbers = iter(numbers)
-
-        def take(count):
-            return [next(numbers) for _ in range(count)]
-
-        r, z, f = take(3)
-        cleared = ByCurve(*take(4))
-        energy = next(numbers)
-        row_prices = RowPrices(energy, ByCurve(*take(4)), [ByCurve(*take(4)) for _ in range(z)], take(f))
-        resources = [Dispatch(*take(5), ResourceRows(*take(5))) for _ in range(r)]
-        return cls(row_prices, resources, cleared)
+        return cls._of_numbers(calls.read_certificate(file), calls.as_file(file)[4])
 
     def prices_of_rows(self) -> List[int]:
         """The price of each row, row 1 first, as the file has it."""
-        prices = [self.row_prices.energy, *self.row_prices.market]
-        for zone in self.row_prices.zones:
-            prices += zone
-        prices += self.row_prices.flowgates
-        for resource in self.resources:
-            prices += resource.row_prices
-        return prices
+        own = self.row_prices
+        prices = [own.energy] + [getattr(own.market, curve.key) for curve in of_version(CURVES, self.version)]
+        prices += [getattr(zone, required.key) for zone in own.zones for required in of_version(ZONE_REQUIREMENTS, self.version)]
+        prices += own.flowgates
+        return prices + [getattr(resource.row_prices, row.key) for resource in self.resources
+                         for row in of_version(RESOURCE_ROWS, self.version)]

@@ -1,6 +1,6 @@
 """What the refusals mean, and what to do about each. The texts are those of include/nostwier_refusals.h."""
 
-from .library import MOST
+from .layout import MOST
 
 MEANING = {
     1: "the case is under 170 bytes, or not as long as its first four bytes say",

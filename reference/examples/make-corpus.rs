@@ -6,7 +6,7 @@
 use nostwier_reference::case::{flag, status, Curve, Flowgate, Kind, Step};
 use nostwier_reference::damage::{every_damage_with_its_flowgates, Damaged, TOO_MANY_FLOWGATES};
 use nostwier_reference::generate::{pair_of_counts, pair_of_scale, Pair, Scale};
-use nostwier_reference::layout::{Counts, MOST_FLOWGATES, MOST_RESOURCES, MOST_ZONES};
+use nostwier_reference::layout::{Counts, Version, MOST_FLOWGATES, MOST_RESOURCES, MOST_ZONES};
 use nostwier_reference::program::whole_text;
 use nostwier_reference::random::Random;
 use nostwier_reference::worked;
@@ -239,7 +239,8 @@ fn generated_pairs() -> Vec<(String, Pair)> {
         .enumerate()
         .map(|(index, (resources, zones, flowgates))| {
             let mut random = Random::new(100 + index as u64);
-            let pair = pair_of_counts(&mut random, counts(resources, zones, flowgates));
+            let pair =
+                pair_of_counts(&mut random, Version::ONE, counts(resources, zones, flowgates));
             (format!("{resources}-{zones}-{flowgates}"), pair)
         })
         .collect()
@@ -260,7 +261,12 @@ fn cases_to_solve() -> Vec<(String, Vec<u8>)> {
         .map(|(seed, resources, zones, flowgates)| {
             let mut random = Random::new(seed);
             let scale = Scale { edges: 5, ..Scale::COMMON };
-            let pair = pair_of_scale(&mut random, counts(resources, zones, flowgates), scale);
+            let pair = pair_of_scale(
+                &mut random,
+                Version::ONE,
+                counts(resources, zones, flowgates),
+                scale,
+            );
             (format!("{resources}-{zones}-{flowgates}"), pair.case_file())
         })
         .collect()
@@ -280,7 +286,7 @@ fn how_many(number: u32) -> usize {
 /// Damaged pairs that the program refuses as it must, split as it splits them.
 /// Files with too many flowgates have pairs of their own.
 fn refused_pairs() -> Vec<(String, Vec<u8>, Vec<u8>)> {
-    let pair = pair_of_counts(&mut Random::new(300), counts(2, 2, 2));
+    let pair = pair_of_counts(&mut Random::new(300), Version::ONE, counts(2, 2, 2));
     let mut by_number: BTreeMap<u32, Vec<Damaged>> = BTreeMap::new();
     for damaged in every_damage_with_its_flowgates(&pair) {
         let printed = whole_text(&[&damaged.case[..], &damaged.certificate].concat());
@@ -335,7 +341,7 @@ const FLOWGATES: [usize; 4] =
 /// An accepted pair of as many flowgates as a case may have, laid out with so
 /// many: nothing but their number is wrong with it.
 fn pair_of_flowgates(flowgates: usize) -> Pair {
-    let pair = pair_of_counts(&mut Random::new(516), counts(2, 1, MOST_FLOWGATES));
+    let pair = pair_of_counts(&mut Random::new(516), Version::ONE, counts(2, 1, MOST_FLOWGATES));
     pair.with_flowgates(flowgates)
 }
 
@@ -368,7 +374,7 @@ fn operation_inputs() -> Vec<OperationInput> {
 }
 
 fn inputs_of_a_common_pair() -> Vec<OperationInput> {
-    let pair = pair_of_counts(&mut Random::new(400), counts(3, 2, 2));
+    let pair = pair_of_counts(&mut Random::new(400), Version::ONE, counts(3, 2, 2));
     let joined = [pair.case_file(), pair.certificate_file()].concat();
     let (case_lines, certificate_lines) = (case_lines(&pair), certificate_lines(&pair));
     [

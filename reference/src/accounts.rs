@@ -1,11 +1,11 @@
 //! Cost, bound, gap and the charges that add up to the gap.
 
-use crate::case::{Case, Curve, Step};
+use crate::case::{Case, Curve, Resource, Step};
 use crate::certificate::Accepted;
 use crate::refusal::Failure;
-use crate::rows::{index_of, Row};
+use crate::rows::{index_of, index_of_cleared, Row};
 use crate::standing::{Product, Standing};
-use crate::units::{Grains, Kw, Thousandths, THOUSAND};
+use crate::units::{Cents, Grains, Kw, Thousandths, THOUSAND};
 
 /// What is priced and charged on its own: a step, or a quantity without steps.
 #[derive(Clone, Copy, Debug, PartialEq, Eq)]
@@ -17,41 +17,47 @@ pub struct Listed {
     pub upper_bound: Kw,
 }
 
-/// Every listed quantity in the order of the charges: per resource ten energy
-/// steps, then g, c, s, o; then the sixteen curve steps.
+/// Every listed quantity in the order of the charges: per resource its energy
+/// steps, then its other products; then the curve steps.
 pub fn listed(case: &Case, standings: &[Standing]) -> Vec<Listed> {
+    let version = case.version;
     let mut list = Vec::new();
     for (resource, (offer, standing)) in case.resources.iter().zip(standings).enumerate() {
         for step in &offer.steps {
             list.push(Listed {
-                index: index_of(resource, Product::Energy),
+                index: index_of(version, resource, Product::Energy),
                 price: THOUSAND * step.price,
                 upper_bound: if standing.is_online() { step.width } else { 0 },
             });
         }
-        for (product, price) in [
-            (Product::Regulating, offer.regulating_price),
-            (Product::Contingency, offer.contingency_price),
-            (Product::OnlineShortTerm, 0),
-            (Product::OfflineShortTerm, offer.offline_short_term_price),
-        ] {
+        for product in Product::beside_energy(version) {
             list.push(Listed {
-                index: index_of(resource, product),
-                price: THOUSAND * price,
-                upper_bound: standing.bounds[product as usize],
+                index: index_of(version, resource, product),
+                price: THOUSAND * offer_price(offer, product),
+                upper_bound: standing.bound(product),
             });
         }
     }
-    for curve in Curve::ALL {
+    for curve in Curve::of(version) {
         for step in &case.curves[curve as usize] {
             list.push(Listed {
-                index: curve as usize,
+                index: index_of_cleared(version, curve),
                 price: -THOUSAND * step.price,
                 upper_bound: step.width,
             });
         }
     }
     list
+}
+
+/// What a resource asks for a product; its energy has a price a step.
+fn offer_price(offer: &Resource, product: Product) -> Cents {
+    match product {
+        Product::Regulating => offer.regulating_price,
+        Product::Contingency => offer.contingency_price,
+        Product::OfflineShortTerm => offer.offline_short_term_price,
+        Product::Energy | Product::OnlineShortTerm => 0,
+    }
 }
 
 /// What fills each step when they are filled in order.
@@ -69,20 +75,16 @@ fn fill(steps: &[Step], amount: Kw) -> Vec<Kw> {
 
 /// The amount of each listed quantity under a schedule, in the same order.
 pub fn listed_amounts(case: &Case, amounts: &[Kw]) -> Vec<Kw> {
+    let version = case.version;
     let mut list = Vec::new();
     for (resource, offer) in case.resources.iter().enumerate() {
-        list.extend(fill(&offer.steps, amounts[index_of(resource, Product::Energy)]));
-        for product in [
-            Product::Regulating,
-            Product::Contingency,
-            Product::OnlineShortTerm,
-            Product::OfflineShortTerm,
-        ] {
-            list.push(amounts[index_of(resource, product)]);
-        }
+        let of = |product| amounts[index_of(version, resource, product)];
+        list.extend(fill(&offer.steps, of(Product::Energy)));
+        list.extend(Product::beside_energy(version).map(of));
     }
-    for curve in Curve::ALL {
-        list.extend(fill(&case.curves[curve as usize], amounts[curve as usize]));
+    for curve in Curve::of(version) {
+        let cleared = amounts[index_of_cleared(version, curve)];
+        list.extend(fill(&case.curves[curve as usize], cleared));
     }
     list
 }
@@ -113,7 +115,7 @@ pub struct Accounts {
     pub cost: i64,
     pub bound: i64,
     pub gap: i64,
-    /// Rows; per resource ten steps, g, c, s, o; sixteen curve steps.
+    /// Of the rows, then of the listed quantities.
     pub charges: Vec<i64>,
 }
 

@@ -2,7 +2,7 @@
 //! one looks at anything.
 
 use crate::case::{Case, Limits, Resource, Step};
-use crate::layout::{self, Counts, SHORTEST_CASE, VERSION};
+use crate::layout::{self, Counts, Version, SHORTEST_CASE};
 use crate::refusal::Refusal;
 use crate::units::Kw;
 
@@ -13,19 +13,18 @@ pub fn check_case(file: &[u8]) -> Result<Case, Refusal> {
     if file.len() < SHORTEST_CASE || !layout::length_is_right(file) {
         return Err(Refusal::CaseLength);
     }
-    if layout::announced_version(file) != Some(VERSION) {
-        return Err(Refusal::CaseVersion);
-    }
+    let version = layout::announced_version(file).ok_or(Refusal::CaseVersion)?;
     let counts = layout::announced_counts(file).ok_or(Refusal::Counts)?;
-    let fields = layout::case_fields(counts);
+    let fields = layout::case_fields(version, counts);
     if file.len() != layout::file_size(&fields) {
         return Err(Refusal::CaseSize);
     }
-    check_case_numbers(counts, &layout::read_fields(file, &fields), &fields)
+    check_case_numbers(version, counts, &layout::read_fields(file, &fields), &fields)
 }
 
 /// Stages 5, 6 and 7, which look only at the numbers.
 pub fn check_case_numbers(
+    version: Version,
     counts: Counts,
     numbers: &[i64],
     fields: &[layout::Field],
@@ -33,7 +32,7 @@ pub fn check_case_numbers(
     if !fields.iter().zip(numbers).all(|(field, number)| field.allows(*number)) {
         return Err(Refusal::FieldRange);
     }
-    let case = Case::from_numbers(counts, numbers);
+    let case = Case::from_fields(version, counts, fields, numbers);
     if !steps_follow_their_rule(&case) {
         return Err(Refusal::StepRule);
     }

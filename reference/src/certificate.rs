@@ -1,8 +1,8 @@
 //! A certificate, and the check of a certificate against its case, 8 to 14.
 
-use crate::case::{Case, Curve};
+use crate::case::Case;
 use crate::case_check::check_case;
-use crate::layout::{self, Counts, SHORTEST_CERTIFICATE, VERSION};
+use crate::layout::{self, Counts, Field, Version, SHORTEST_CERTIFICATE};
 use crate::refusal::Refusal;
 use crate::rows::{quantities, rows, Quantity, Row};
 use crate::standing::{standings, Standing};
@@ -11,8 +11,9 @@ use crate::units::Kw;
 /// A schedule with the prices of its rows.
 #[derive(Clone, Debug, PartialEq, Eq)]
 pub struct Certificate {
+    pub version: Version,
     pub counts: Counts,
-    /// In the order of places: four cleared, then five per resource.
+    /// In the order of places: the cleared ones, then those of each resource.
     pub amounts: Vec<Kw>,
     /// In the order of rows. A flowgate's is in cents, for its row counts in
     /// thousandths of a kW; all others are in thousandths of a cent.
@@ -21,35 +22,40 @@ pub struct Certificate {
 
 impl Certificate {
     /// The certificate whose fields, counts left out, hold these numbers.
-    pub fn from_numbers(counts: Counts, numbers: &[i64]) -> Certificate {
-        let mut amounts = Vec::new();
-        let mut row_prices = Vec::new();
-        let cleared = Curve::ALL.len();
-        let market_rows = counts.row_count() - 5 * counts.resources;
-        let (head, resources) = numbers.split_at((cleared + market_rows).min(numbers.len()));
-        let (head_amounts, head_prices) = head.split_at(cleared.min(head.len()));
-        amounts.extend(head_amounts);
-        row_prices.extend(head_prices);
-        for resource in resources.chunks(10) {
-            let (its_amounts, its_prices) = resource.split_at(resource.len().min(5));
-            amounts.extend(its_amounts);
-            row_prices.extend(its_prices);
+    pub fn from_numbers(version: Version, counts: Counts, numbers: &[i64]) -> Certificate {
+        let fields = layout::certificate_fields(version, counts);
+        Certificate::from_fields(version, counts, &fields, numbers)
+    }
+
+    /// The same, for one who has the fields at hand. Places and rows go in the
+    /// order of their fields.
+    fn from_fields(
+        version: Version,
+        counts: Counts,
+        fields: &[Field],
+        numbers: &[i64],
+    ) -> Certificate {
+        let of_kind = |quantity: bool| {
+            let both = fields.iter().zip(numbers);
+            both.filter(move |(field, _)| field.quantity == quantity).map(|(_, number)| *number)
+        };
+        Certificate {
+            version,
+            counts,
+            amounts: of_kind(true).collect(),
+            row_prices: of_kind(false).collect(),
         }
-        Certificate { counts, amounts, row_prices }
     }
 
     /// The numbers of its fields, counts left out, in the order of the file.
     pub fn numbers(&self) -> Vec<i64> {
-        let cleared = Curve::ALL.len().min(self.amounts.len());
-        let market_rows = self.row_prices.len().saturating_sub(5 * self.counts.resources);
-        let (cleared, amounts) = self.amounts.split_at(cleared);
-        let (market_prices, prices) = self.row_prices.split_at(market_rows);
-        let mut out = [cleared, market_prices].concat();
-        for (its_amounts, its_prices) in amounts.chunks(5).zip(prices.chunks(5)) {
-            out.extend(its_amounts);
-            out.extend(its_prices);
-        }
-        out
+        let mut amounts = self.amounts.iter();
+        let mut row_prices = self.row_prices.iter();
+        let number = |field: &Field| {
+            let next = if field.quantity { amounts.next() } else { row_prices.next() };
+            next.copied().unwrap_or(0)
+        };
+        layout::certificate_fields(self.version, self.counts).iter().map(number).collect()
     }
 }
 
@@ -82,14 +88,12 @@ fn well_formed(case: &Case, file: &[u8]) -> Result<Certificate, Refusal> {
     if file.len() < SHORTEST_CERTIFICATE || !layout::length_is_right(file) {
         return Err(Refusal::CertificateLength);
     }
-    if layout::announced_version(file) != Some(VERSION) {
-        return Err(Refusal::CertificateVersion);
-    }
+    let version = layout::announced_version(file).ok_or(Refusal::CertificateVersion)?;
     let counts = layout::announced_counts(file).ok_or(Refusal::CertificateCounts)?;
     if counts != case.counts {
         return Err(Refusal::CertificateCounts);
     }
-    let fields = layout::certificate_fields(counts);
+    let fields = layout::certificate_fields(version, counts);
     if file.len() != layout::file_size(&fields) {
         return Err(Refusal::CertificateSize);
     }
@@ -97,16 +101,16 @@ fn well_formed(case: &Case, file: &[u8]) -> Result<Certificate, Refusal> {
     if !fields.iter().zip(&numbers).all(|(field, number)| field.allows(*number)) {
         return Err(Refusal::Price);
     }
-    Ok(Certificate::from_numbers(counts, &numbers))
+    Ok(Certificate::from_fields(version, counts, &fields, &numbers))
 }
 
 /// The upper bound of each quantity, in the order of places.
 pub fn upper_bounds(case: &Case, standings: &[Standing]) -> Vec<Kw> {
     let bound = |quantity| match quantity {
         Quantity::Cleared(curve) => case.curve_width(curve),
-        Quantity::Of(resource, product) => standings[resource].bounds[product as usize],
+        Quantity::Of(resource, product) => standings[resource].bound(product),
     };
-    quantities(case.resources.len()).into_iter().map(bound).collect()
+    quantities(case.version, case.counts).into_iter().map(bound).collect()
 }
 
 /// The place of the first amount above its bound.

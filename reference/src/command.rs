@@ -2,7 +2,7 @@
 
 use crate::damage;
 use crate::generate::{random_counts, varied_pair};
-use crate::layout::{Counts, MOST_FLOWGATES, MOST_RESOURCES, MOST_ZONES};
+use crate::layout::{Counts, Version, MOST_FLOWGATES, MOST_RESOURCES, MOST_ZONES};
 use crate::operations;
 use crate::program::{self, LONGEST_INPUT};
 use crate::random::Random;
@@ -330,6 +330,7 @@ struct Order {
     count: usize,
     directory: String,
     manner: Manner,
+    version: Version,
     counts: Option<Counts>,
 }
 
@@ -366,6 +367,7 @@ fn generate_order(arguments: &[String]) -> Result<Order, Trouble> {
         count: count_number(count)?,
         directory: directory.clone(),
         manner: Manner::Mixed,
+        version: Version::ONE,
         counts: None,
     };
     let mut left = options;
@@ -415,7 +417,7 @@ fn next_files(random: &mut Random, order: &Order) -> Vec<(Vec<u8>, Vec<u8>)> {
         Some(counts) => counts,
         None => random_counts(random),
     };
-    let pair = varied_pair(random, counts);
+    let pair = varied_pair(random, order.version, counts);
     let sound = (pair.case_file(), pair.certificate_file());
     match order.manner {
         Manner::Accepted => vec![sound],

@@ -5,13 +5,15 @@ use crate::case::{Case, Curve, Step};
 use crate::certificate::{first_above_bound, upper_bounds, Certificate};
 use crate::generate::Pair;
 use crate::layout::{
-    self, Field, HEAD, MOST_FLOWGATES, MOST_RESOURCES, MOST_ZONES, SHORTEST_CASE,
+    self, Field, ENERGY_STEPS, HEAD, MOST_FLOWGATES, MOST_RESOURCES, MOST_ZONES, SHORTEST_CASE,
     SHORTEST_CERTIFICATE,
 };
 use crate::random::Random;
 use crate::refusal::Refusal;
-use crate::rows::{index_of, rows};
-use crate::standing::{offline_standing, operating_state, standings, OperatingState, Product};
+use crate::rows::{index_of, index_of_cleared, rows, Limit, RowName};
+use crate::standing::{
+    offline_standing, operating_state, standing, standings, OperatingState, Product,
+};
 
 /// A damaged pair, what was done to it, and how it must be refused.
 #[derive(Clone, Debug)]
@@ -88,7 +90,7 @@ fn describe(field: &Field, number: i64) -> String {
 }
 
 pub fn case_fields_past_their_ends(pair: &Pair) -> Vec<Damaged> {
-    let fields = layout::case_fields(pair.case.counts);
+    let fields = layout::case_fields(pair.case.version, pair.case.counts);
     let file = pair.case_file();
     let certificate = pair.certificate_file();
     past_ends(&fields, |index, number, what| Damaged {
@@ -100,7 +102,7 @@ pub fn case_fields_past_their_ends(pair: &Pair) -> Vec<Damaged> {
 }
 
 pub fn certificate_fields_past_their_ends(pair: &Pair) -> Vec<Damaged> {
-    let fields = layout::certificate_fields(pair.case.counts);
+    let fields = layout::certificate_fields(pair.certificate.version, pair.certificate.counts);
     let file = pair.certificate_file();
     let case = pair.case_file();
     past_ends(&fields, |index, number, what| Damaged {
@@ -146,11 +148,12 @@ pub fn reserve_of_tripped(pair: &Pair) -> Vec<Damaged> {
     for (index, resource) in pair.case.resources.iter().enumerate() {
         let offline = offline_standing(&pair.case, resource);
         for product in [Product::Contingency, Product::OfflineShortTerm] {
-            let most = offline.bounds[product as usize];
+            let most = offline.bound(product);
             if operating_state(resource) == OperatingState::Tripped && most > 0 {
                 let mut certificate = pair.certificate.clone();
-                certificate.amounts[index_of(index, product)] = most;
-                let refusal = Refusal::Quantity { place: index_of(index, product) + 1 };
+                let place = index_of(certificate.version, index, product);
+                certificate.amounts[place] = most;
+                let refusal = Refusal::Quantity { place: place + 1 };
                 let what = format!("tripped resource {index} gives reserve");
                 list.push(of_pair(what, &with_certificate(pair, certificate), refusal));
             }
@@ -355,51 +358,66 @@ fn of_pair(what: String, pair: &Pair, refusal: Refusal) -> Damaged {
 /// Steps whose prices turn, empty steps that are priced or stand too early,
 /// and an offer a kW too wide: 6.
 pub fn steps_against_their_rule(pair: &Pair) -> Vec<Damaged> {
-    let mut list = Vec::new();
-    let mut push = |what: String, case: Case| {
-        list.push(of_pair(what, &with_case(pair, case), Refusal::StepRule));
+    let of_curves = Curve::of(pair.case.version).flat_map(|curve| wrong_curves(pair, curve));
+    let resources = 0..pair.case.resources.len();
+    let of_offers = resources.flat_map(|resource| wrong_offers(pair, resource));
+    of_curves
+        .chain(of_offers)
+        .map(|(what, case)| of_pair(what, &with_case(pair, case), Refusal::StepRule))
+        .collect()
+}
+
+/// The case with the steps of a curve against their rule, in each way.
+fn wrong_curves(pair: &Pair, curve: Curve) -> [(String, Case); 3] {
+    let changed = |change: fn(&mut [Step])| {
+        let mut case = pair.case.clone();
+        change(&mut case.curves[curve as usize]);
+        case
     };
-    for curve in 0..pair.case.curves.len() {
-        let mut case = pair.case.clone();
-        case.curves[curve][0].width = case.curves[curve][0].width.max(1);
-        case.curves[curve][1].width = case.curves[curve][1].width.max(1);
-        case.curves[curve][0].price = 7;
-        case.curves[curve][1].price = 8;
-        push(format!("prices of curve {curve} rise"), case);
+    let rising = changed(|steps| {
+        steps[0] = Step { width: steps[0].width.max(1), price: 7 };
+        steps[1] = Step { width: steps[1].width.max(1), price: 8 };
+    });
+    let priced = changed(|steps| steps[3] = Step { width: 0, price: 1 });
+    let too_early = changed(|steps| {
+        steps[0] = Step::default();
+        steps[1].width = 1;
+    });
+    [
+        (format!("prices of {curve:?} rise"), rising),
+        (format!("an empty step of {curve:?} has a price"), priced),
+        (format!("an empty step of {curve:?} comes first"), too_early),
+    ]
+}
 
+/// The case with the energy steps of a resource against their rule, in each way.
+fn wrong_offers(pair: &Pair, resource: usize) -> [(String, Case); 4] {
+    const ONE_WIDE: Step = Step { width: 1, price: 5 };
+    let changed = |change: fn(&mut [Step; ENERGY_STEPS])| {
         let mut case = pair.case.clone();
-        case.curves[curve][3].width = 0;
-        case.curves[curve][3].price = 1;
-        push(format!("an empty step of curve {curve} has a price"), case);
-
-        let mut case = pair.case.clone();
-        case.curves[curve][0] = Default::default();
-        case.curves[curve][1].width = 1;
-        push(format!("an empty step of curve {curve} comes first"), case);
-    }
-    for resource in 0..pair.case.resources.len() {
-        let one_wide = |price| Step { width: 1, price };
-        let mut case = pair.case.clone();
-        case.resources[resource].steps = [one_wide(5); 10];
-        case.resources[resource].steps[9].price = 4;
-        push(format!("energy prices of resource {resource} fall"), case);
-
-        let mut case = pair.case.clone();
-        case.resources[resource].steps[9] = Step { width: 0, price: -1 };
-        push(format!("an empty energy step of resource {resource} has a price"), case);
-
-        let mut case = pair.case.clone();
-        case.resources[resource].steps = [one_wide(5); 10];
-        case.resources[resource].steps[4] = Default::default();
-        push(format!("an empty energy step of resource {resource} stands between"), case);
-
-        let mut case = pair.case.clone();
-        case.resources[resource].steps = [Default::default(); 10];
-        case.resources[resource].steps[0] = Step { width: 2_000_000, price: 0 };
-        case.resources[resource].steps[1] = one_wide(0);
-        push(format!("the offer of resource {resource} is a kW too wide"), case);
-    }
-    list
+        change(&mut case.resources[resource].steps);
+        case
+    };
+    let falling = changed(|steps| {
+        *steps = [ONE_WIDE; ENERGY_STEPS];
+        steps[9].price = 4;
+    });
+    let priced = changed(|steps| steps[9] = Step { width: 0, price: -1 });
+    let between = changed(|steps| {
+        *steps = [ONE_WIDE; ENERGY_STEPS];
+        steps[4] = Step::default();
+    });
+    let too_wide = changed(|steps| {
+        *steps = [Step::default(); ENERGY_STEPS];
+        steps[0] = Step { width: 2_000_000, price: 0 };
+        steps[1] = Step { width: 1, price: 0 };
+    });
+    [
+        (format!("energy prices of resource {resource} fall"), falling),
+        (format!("an empty energy step of resource {resource} has a price"), priced),
+        (format!("an empty energy step of resource {resource} stands between"), between),
+        (format!("the offer of resource {resource} is a kW too wide"), too_wide),
+    ]
 }
 
 /// Each minimum above its maximum: 7.
@@ -430,131 +448,110 @@ pub fn minima_above_maxima(pair: &Pair) -> Vec<Damaged> {
 /// Rows broken by the least amount, the rows before them kept: 14.
 pub fn broken_rows(pair: &Pair) -> Vec<Damaged> {
     let mut list = Vec::new();
-    list.extend(broken_demand(pair));
-    list.extend(broken_market_rows(pair));
-    list.extend(broken_zone_rows(pair));
-    list.extend(broken_flowgates(pair));
-    list.extend(broken_resource_rows(pair));
+    for (index, row) in rows(&pair.case, &standings(&pair.case)).iter().enumerate() {
+        let slack = row.slack(&pair.certificate.amounts) as i64;
+        let breaks = match row.name {
+            RowName::Demand => broken_demand(pair),
+            RowName::Market(curve) => broken_market_row(pair, curve, slack),
+            RowName::Zone(zone, curve) => broken_zone_row(pair, zone, curve, slack),
+            RowName::Flowgate(flowgate) => broken_flowgate(pair, flowgate, slack),
+            RowName::Of(resource, limit) => broken_limit(pair, resource, limit),
+        };
+        for (what, broken) in breaks {
+            list.push(of_pair(what, &broken, Refusal::Row { row: index + 1 }));
+        }
+    }
     list
 }
 
-fn broken_demand(pair: &Pair) -> Vec<Damaged> {
+/// Pairs in which a row is broken, each with what was done to it; none if the
+/// ranges of the fields do not allow it.
+type Broken = Vec<(String, Pair)>;
+
+fn broken_demand(pair: &Pair) -> Broken {
     let mut list = Vec::new();
     for change in [-1, 1] {
         let mut case = pair.case.clone();
         case.demand += change;
         if (0..=128_000_000).contains(&case.demand) {
-            let what = format!("demand off by {change}");
-            list.push(of_pair(what, &with_case(pair, case), Refusal::Row { row: 1 }));
+            list.push((format!("demand off by {change}"), with_case(pair, case)));
         }
     }
     list
 }
 
-/// The slack of each row as the pair stands.
-fn slacks(pair: &Pair) -> Vec<i64> {
-    rows(&pair.case, &standings(&pair.case))
-        .iter()
-        .map(|row| row.slack(&pair.certificate.amounts) as i64)
+fn broken_market_row(pair: &Pair, curve: Curve, slack: i64) -> Broken {
+    let mut certificate = pair.certificate.clone();
+    let cleared = &mut certificate.amounts[index_of_cleared(pair.certificate.version, curve)];
+    *cleared += slack + 1;
+    if *cleared > pair.case.curve_width(curve) {
+        return Vec::new();
+    }
+    vec![(format!("a kW too much clears on {curve:?}"), with_certificate(pair, certificate))]
+}
+
+fn broken_zone_row(pair: &Pair, zone: usize, curve: Curve, slack: i64) -> Broken {
+    let mut case = pair.case.clone();
+    for (requirement, other) in case.zones[zone].iter_mut().zip(Curve::OF_ZONES) {
+        if other == curve {
+            *requirement += slack + 1;
+        }
+    }
+    if case.requirement(zone, curve) > 2_000_000 {
+        return Vec::new();
+    }
+    vec![(format!("zone {zone} asks for a kW too much of {curve:?}"), with_case(pair, case))]
+}
+
+fn broken_flowgate(pair: &Pair, flowgate: usize, slack: i64) -> Broken {
+    let mut case = pair.case.clone();
+    let limit = &mut case.flowgates[flowgate].limit;
+    *limit -= slack / 1000 + 1;
+    if *limit < -20_000_000 {
+        return Vec::new();
+    }
+    vec![(format!("limit of flowgate {flowgate} is a kW too little"), with_case(pair, case))]
+}
+
+fn broken_limit(pair: &Pair, resource: usize, limit: Limit) -> Broken {
+    if !standing(&pair.case, &pair.case.resources[resource]).is_online() {
+        return Vec::new();
+    }
+    let what = format!("{limit:?} of resource {resource} is a kW off");
+    case_past_limit(pair, resource, limit)
+        .map(|case| (what, with_case(pair, case)))
+        .into_iter()
         .collect()
 }
 
-fn broken_market_rows(pair: &Pair) -> Vec<Damaged> {
-    let slacks = slacks(pair);
-    let mut list = Vec::new();
-    for curve in Curve::ALL {
-        let index = curve as usize;
-        let mut certificate = pair.certificate.clone();
-        certificate.amounts[index] += slacks[1 + index] + 1;
-        if certificate.amounts[index] <= pair.case.curve_width(curve) {
-            let row = 2 + index;
-            let what = format!("a kW too much clears on curve {index}");
-            let damaged = with_certificate(pair, certificate);
-            list.push(of_pair(what, &damaged, Refusal::Row { row }));
+/// The case with a limit of an on-line resource moved past its schedule, by a kW.
+fn case_past_limit(pair: &Pair, resource: usize, limit: Limit) -> Option<Case> {
+    let Certificate { version, amounts, .. } = &pair.certificate;
+    let of = |product| amounts[index_of(*version, resource, product)];
+    let energy = of(Product::Energy);
+    let within_max = energy + of(Product::Regulating) + of(Product::Contingency);
+    let short_term = energy + of(Product::OnlineShortTerm);
+    let mut case = pair.case.clone();
+    let changed = &mut case.resources[resource];
+    match limit {
+        Limit::Maximum => return with_maximum(pair, resource, within_max - 1),
+        Limit::MaximumWithShortTerm if short_term > within_max => {
+            return with_maximum(pair, resource, short_term - 1);
         }
+        Limit::Minimum => {
+            return with_minimum(pair, resource, energy - of(Product::Regulating) + 1);
+        }
+        Limit::High if energy > 0 => {
+            changed.initial = energy - 1;
+            changed.ramp_up = 0;
+        }
+        Limit::Low if energy < 2_000_000 => {
+            changed.initial = energy + 1;
+            changed.ramp_down = 0;
+        }
+        Limit::MaximumWithShortTerm | Limit::High | Limit::Low => return None,
     }
-    list
-}
-
-fn broken_zone_rows(pair: &Pair) -> Vec<Damaged> {
-    let slacks = slacks(pair);
-    let mut list = Vec::new();
-    for zone in 0..pair.case.counts.zones {
-        for curve in 0..4 {
-            let index = 5 + 4 * zone + curve;
-            let mut case = pair.case.clone();
-            case.zones[zone][curve] += slacks[index] + 1;
-            if case.zones[zone][curve] <= 2_000_000 {
-                let what = format!("requirement {curve} of zone {zone} is a kW too much");
-                let damaged = with_case(pair, case);
-                list.push(of_pair(what, &damaged, Refusal::Row { row: index + 1 }));
-            }
-        }
-    }
-    list
-}
-
-fn broken_flowgates(pair: &Pair) -> Vec<Damaged> {
-    let slacks = slacks(pair);
-    let mut list = Vec::new();
-    for flowgate in 0..pair.case.counts.flowgates {
-        let index = 5 + 4 * pair.case.counts.zones + flowgate;
-        let mut case = pair.case.clone();
-        case.flowgates[flowgate].limit -= slacks[index] / 1000 + 1;
-        if case.flowgates[flowgate].limit >= -20_000_000 {
-            let what = format!("limit of flowgate {flowgate} is a kW too little");
-            let damaged = with_case(pair, case);
-            list.push(of_pair(what, &damaged, Refusal::Row { row: index + 1 }));
-        }
-    }
-    list
-}
-
-fn broken_resource_rows(pair: &Pair) -> Vec<Damaged> {
-    let counts = pair.case.counts;
-    let standings = standings(&pair.case);
-    let mut list = Vec::new();
-    for (resource, standing) in standings.iter().enumerate() {
-        if !standing.is_online() {
-            continue;
-        }
-        let first = 5 + 4 * counts.zones + counts.flowgates + 5 * resource + 1;
-        let of = |product| pair.certificate.amounts[index_of(resource, product)];
-        let energy = of(Product::Energy);
-        let mut push = |what: &str, case: Case, row: usize| {
-            let damaged = with_case(pair, case);
-            let what = format!("{what} of resource {resource}");
-            list.push(of_pair(what, &damaged, Refusal::Row { row }));
-        };
-
-        let within_max = energy + of(Product::Regulating) + of(Product::Contingency);
-        if let Some(case) = with_maximum(pair, resource, within_max - 1) {
-            push("MAX a kW below e + g + c", case, first);
-        }
-        let short_term = energy + of(Product::OnlineShortTerm);
-        if short_term > within_max {
-            if let Some(case) = with_maximum(pair, resource, short_term - 1) {
-                push("MAX a kW below e + s", case, first + 1);
-            }
-        }
-        let above_min = energy - of(Product::Regulating);
-        if let Some(case) = with_minimum(pair, resource, above_min + 1) {
-            push("MIN a kW above e - g", case, first + 2);
-        }
-        if energy > 0 {
-            let mut case = pair.case.clone();
-            case.resources[resource].initial = energy - 1;
-            case.resources[resource].ramp_up = 0;
-            push("HI a kW below e", case, first + 3);
-        }
-        if energy < 2_000_000 {
-            let mut case = pair.case.clone();
-            case.resources[resource].initial = energy + 1;
-            case.resources[resource].ramp_down = 0;
-            push("LO a kW above e", case, first + 4);
-        }
-    }
-    list
+    Some(case)
 }
 
 /// The case with all three maxima of a resource at `most`; None unless the

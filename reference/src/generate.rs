@@ -7,12 +7,14 @@
 use crate::case::{flag, status, Case, Curve, Flowgate, Kind, Limits, Reserve, Resource, Step};
 use crate::certificate::Certificate;
 use crate::layout::{
-    self, Counts, CURVES, CURVE_STEPS, ENERGY_STEPS, MOST_FLOWGATES, MOST_RESOURCES, MOST_ZONES,
+    self, Counts, Version, CURVES, CURVE_STEPS, ENERGY_STEPS, MOST_FLOWGATES, MOST_RESOURCES,
+    MOST_ZONES, ZONE_CURVES,
 };
 use crate::random::Random;
-use crate::rows::{index_of, rows};
+use crate::rows::{index_of, index_of_cleared, row_names, RowName};
 use crate::standing::{
     offline_standing, operating_state, standing, standings, OperatingState, Product, Standing,
+    PRODUCTS,
 };
 use crate::units::{Cents, Kw};
 
@@ -25,13 +27,15 @@ pub struct Pair {
 
 impl Pair {
     pub fn case_file(&self) -> Vec<u8> {
-        let fields = layout::case_fields(self.case.counts);
-        layout::write_fields(self.case.counts, &self.case.numbers(), &fields)
+        let Case { version, counts, .. } = self.case;
+        let fields = layout::case_fields(version, counts);
+        layout::write_fields(version, counts, &self.case.numbers_of(&fields), &fields)
     }
 
     pub fn certificate_file(&self) -> Vec<u8> {
-        let fields = layout::certificate_fields(self.certificate.counts);
-        layout::write_fields(self.certificate.counts, &self.certificate.numbers(), &fields)
+        let Certificate { version, counts, .. } = self.certificate;
+        let fields = layout::certificate_fields(version, counts);
+        layout::write_fields(version, counts, &self.certificate.numbers(), &fields)
     }
 
     /// The same pair with another number of flowgates, for which `layout` says
@@ -39,14 +43,15 @@ impl Pair {
     pub fn with_flowgates(&self, flowgates: usize) -> Pair {
         let own = self.case.counts;
         let counts = Counts { flowgates, ..own };
-        let numbers = |of: fn(Counts) -> Vec<layout::Field>, numbers: &[i64]| {
-            layout::with_flowgates(&of(own), numbers, &of(counts))
+        let numbers = |of: layout::FieldsOf, version: Version, numbers: &[i64]| {
+            layout::with_flowgates(&of(version, own), numbers, &of(version, counts))
         };
-        let case = numbers(layout::case_fields, &self.case.numbers());
-        let certificate = numbers(layout::certificate_fields, &self.certificate.numbers());
+        let (version, other) = (self.case.version, self.certificate.version);
+        let case = numbers(layout::case_fields, version, &self.case.numbers());
+        let certificate = numbers(layout::certificate_fields, other, &self.certificate.numbers());
         Pair {
-            case: Case::from_numbers(counts, &case),
-            certificate: Certificate::from_numbers(counts, &certificate),
+            case: Case::from_numbers(version, counts, &case),
+            certificate: Certificate::from_numbers(other, counts, &certificate),
         }
     }
 }
@@ -109,17 +114,18 @@ pub fn random_counts(random: &mut Random) -> Counts {
     }
 }
 
-/// An accepted pair of any size and scale.
+/// An accepted pair of any version, size and scale.
 pub fn random_pair(random: &mut Random) -> Pair {
+    let version = random.pick(&Version::ALL);
     let counts = random_counts(random);
-    varied_pair(random, counts)
+    varied_pair(random, version, counts)
 }
 
 /// An accepted pair as `pair_of_counts` draws it, with some self-schedules out
 /// of reach and more resources that tripped 15 minutes ago or about then. These
 /// are drawn aside: what is drawn next is the same without them.
-pub fn varied_pair(random: &mut Random, counts: Counts) -> Pair {
-    let mut pair = drawn_pair_of_counts(random, counts);
+pub fn varied_pair(random: &mut Random, version: Version, counts: Counts) -> Pair {
+    let mut pair = drawn_pair_of_counts(random, version, counts);
     let mut aside = Random::new(random.clone().bits());
     lift_self_schedules(&mut aside, &mut pair);
     move_trips(&mut aside, &mut pair.case);
@@ -136,7 +142,8 @@ fn lift_self_schedules(random: &mut Random, pair: &mut Pair) {
         let lesser = standing.high.min(standing.maximum);
         let larger = standing.high.max(standing.maximum);
         let scheduled = standing.is_online() && resource.has_flag(flag::SELF_SCHEDULED);
-        if scheduled && pair.certificate.amounts[index_of(index, Product::Energy)] == lesser {
+        let energy = index_of(pair.certificate.version, index, Product::Energy);
+        if scheduled && pair.certificate.amounts[energy] == lesser {
             let own = resource.self_schedule;
             resource.self_schedule =
                 random.pick(&[own, lesser + 1, larger, larger + 1, MOST]).min(MOST);
@@ -163,93 +170,95 @@ fn move_trips(random: &mut Random, case: &mut Case) {
     }
 }
 
-/// An accepted pair of the given size and any scale, now and then filled to
-/// the brim.
-pub fn pair_of_counts(random: &mut Random, counts: Counts) -> Pair {
-    let mut pair = drawn_pair_of_counts(random, counts);
+/// An accepted pair of the given version and size and any scale, now and then
+/// filled to the brim.
+pub fn pair_of_counts(random: &mut Random, version: Version, counts: Counts) -> Pair {
+    let mut pair = drawn_pair_of_counts(random, version, counts);
     withdraw_tripped(&mut pair);
     pair
 }
 
-/// An accepted pair of the given size and scale.
-pub fn pair_of_scale(random: &mut Random, counts: Counts, scale: Scale) -> Pair {
-    let mut pair = drawn_pair_of_scale(random, counts, scale);
+/// An accepted pair of the given version, size and scale.
+pub fn pair_of_scale(random: &mut Random, version: Version, counts: Counts, scale: Scale) -> Pair {
+    let mut pair = drawn_pair_of_scale(random, version, counts, scale);
     withdraw_tripped(&mut pair);
     pair
 }
 
 /// As `pair_of_counts`, but with what tripped resources could give if they were
 /// off-line; the pair is accepted only if that is nothing.
-fn drawn_pair_of_counts(random: &mut Random, counts: Counts) -> Pair {
+fn drawn_pair_of_counts(random: &mut Random, version: Version, counts: Counts) -> Pair {
     if random.percent(4) {
-        return full_pair(random, counts);
+        return full_pair(random, version, counts);
     }
     let scale = random.pick(&[Scale::FULL, Scale::COMMON, Scale::COMMON, Scale::SMALL]);
     let edges = random.pick(&[4, 15, 40]);
-    drawn_pair_of_scale(random, counts, Scale { edges, ..scale })
+    drawn_pair_of_scale(random, version, counts, Scale { edges, ..scale })
 }
 
 /// As `pair_of_scale`, but for tripped resources, as in `drawn_pair_of_counts`.
-fn drawn_pair_of_scale(random: &mut Random, counts: Counts, scale: Scale) -> Pair {
-    let mut case = market(random, counts, scale);
-    let mut amounts = vec![0; Curve::ALL.len()];
-    for _ in 0..counts.resources {
+fn drawn_pair_of_scale(
+    random: &mut Random,
+    version: Version,
+    counts: Counts,
+    scale: Scale,
+) -> Pair {
+    let mut case = market(random, version, counts, scale);
+    let mut amounts = vec![0; counts.place_count(version)];
+    for index in 0..counts.resources {
         let (resource, its_amounts) = resource_with_schedule(random, &case, scale);
         case.resources.push(resource);
-        amounts.extend(its_amounts);
+        set_amounts(&mut amounts, version, index, its_amounts);
     }
-    case.demand = energies(&amounts).iter().sum();
-    case.flowgates =
-        (0..counts.flowgates).map(|_| flowgate(random, &energies(&amounts), scale)).collect();
+    let energies = energies(&case, &amounts);
+    case.demand = energies.iter().sum();
+    case.flowgates = (0..counts.flowgates).map(|_| flowgate(random, &energies, scale)).collect();
     set_zone_requirements(random, &mut case, &amounts, scale);
     clear_curves(random, &case, &mut amounts, scale);
     let row_prices = row_prices(random, &case, scale);
-    Pair { case, certificate: Certificate { counts, amounts, row_prices } }
+    Pair { case, certificate: Certificate { version, counts, amounts, row_prices } }
 }
 
 /// A tripped resource sells nothing (02, request 2): takes back what it was
 /// given, and lowers what is then no longer provided, which is requirements of
 /// zones and cleared quantities. No other figure hangs on who has tripped.
 fn withdraw_tripped(pair: &mut Pair) {
-    let Pair { case, certificate: Certificate { amounts, .. } } = pair;
+    let Pair { case, certificate: Certificate { version, amounts, .. } } = pair;
     for (index, resource) in case.resources.iter().enumerate() {
         if operating_state(resource) == OperatingState::Tripped {
-            for product in Product::ALL {
-                amounts[index_of(index, product)] = 0;
-            }
+            set_amounts(amounts, *version, index, [0; PRODUCTS]);
         }
     }
     for zone in 1..=case.counts.zones {
         let provided = provided(case, amounts, Some(zone));
-        for (requirement, sum) in case.zones[zone - 1].iter_mut().zip(provided) {
-            *requirement = sum.min(*requirement);
+        for (requirement, curve) in case.zones[zone - 1].iter_mut().zip(Curve::OF_ZONES) {
+            *requirement = provided[curve as usize].min(*requirement);
         }
     }
     let provided = provided(case, amounts, None);
-    for (cleared, sum) in amounts.iter_mut().zip(provided) {
-        *cleared = sum.min(*cleared);
+    for curve in Curve::of(*version) {
+        let cleared = &mut amounts[index_of_cleared(*version, curve)];
+        *cleared = provided[curve as usize].min(*cleared);
     }
 }
 
 /// An accepted pair whose figures stand at the far ends of their ranges: all
 /// the energy there can be, or all the reserve.
-pub fn full_pair(random: &mut Random, counts: Counts) -> Pair {
+pub fn full_pair(random: &mut Random, version: Version, counts: Counts) -> Pair {
     let scale = Scale { edges: 100, ..Scale::FULL };
     let price = random.pick(&[-scale.price, scale.price]);
-    let its_amounts = random.pick(&[
-        [scale.power, 0, 0, 0, 0],
-        [scale.power / 2, scale.power / 2, 0, scale.power / 2, 0],
-        [0, 0, scale.power, scale.power, 0],
-    ]);
-    let mut case = market(random, counts, scale);
+    let its_amounts = random.pick(&full_amounts(scale.power));
+    let mut case = market(random, version, counts, scale);
     for reserve in [&mut case.contingency, &mut case.regulating, &mut case.short_term] {
         *reserve = Reserve { multiplier: 1, minutes: 60, share: 1000, requirement: 8_000_000 };
     }
     case.resources =
         (0..counts.resources).map(|index| full_resource(index, counts, price)).collect();
-    let mut amounts = vec![0; Curve::ALL.len()];
-    amounts.extend(its_amounts.repeat(counts.resources));
-    let energy: Kw = energies(&amounts).iter().sum();
+    let mut amounts = vec![0; counts.place_count(version)];
+    for index in 0..counts.resources {
+        set_amounts(&mut amounts, version, index, its_amounts);
+    }
+    let energy: Kw = energies(&case, &amounts).iter().sum();
     case.demand = energy;
     let against_the_flow =
         Flowgate { limit: -energy.min(20_000_000), factors: vec![-1000; counts.resources] };
@@ -257,7 +266,35 @@ pub fn full_pair(random: &mut Random, counts: Counts) -> Pair {
     set_zone_requirements(random, &mut case, &amounts, scale);
     clear_curves(random, &case, &mut amounts, scale);
     let row_prices = row_prices(random, &case, scale);
-    Pair { case, certificate: Certificate { counts, amounts, row_prices } }
+    Pair { case, certificate: Certificate { version, counts, amounts, row_prices } }
+}
+
+/// What a resource can give at most: energy, energy and regulating reserve on
+/// either side of it, or reserve alone.
+fn full_amounts(power: Kw) -> [[Kw; PRODUCTS]; 3] {
+    use Product::{Contingency, Energy, OnlineShortTerm, Regulating};
+    let half = power / 2;
+    [
+        amounts_of([(Energy, power)]),
+        amounts_of([(Energy, half), (Regulating, half), (OnlineShortTerm, half)]),
+        amounts_of([(Contingency, power), (OnlineShortTerm, power)]),
+    ]
+}
+
+/// A resource's amounts in the order of `Product::ALL`, 0 where none is given.
+fn amounts_of<const N: usize>(given: [(Product, Kw); N]) -> [Kw; PRODUCTS] {
+    let mut amounts = [0; PRODUCTS];
+    for (product, amount) in given {
+        amounts[product as usize] = amount;
+    }
+    amounts
+}
+
+/// Puts a resource's amounts in their places, those that the version has.
+fn set_amounts(amounts: &mut [Kw], version: Version, resource: usize, its: [Kw; PRODUCTS]) {
+    for product in Product::of(version) {
+        amounts[index_of(version, resource, product)] = its[product as usize];
+    }
 }
 
 /// An on-line resource, free to give all its power as energy or as reserve.
@@ -289,18 +326,23 @@ fn full_resource(index: usize, counts: Counts, price: Cents) -> Resource {
 }
 
 /// The market-wide figures; resources, zones and flowgates come later.
-fn market(random: &mut Random, counts: Counts, scale: Scale) -> Case {
-    Case {
+fn market(random: &mut Random, version: Version, counts: Counts, scale: Scale) -> Case {
+    let mut case = Case {
+        version,
         counts,
         demand: 0,
         contingency: reserve(random, scale),
         regulating: reserve(random, scale),
         short_term: reserve(random, scale),
-        curves: std::array::from_fn(|_| curve(random, scale)),
-        zones: vec![[0; CURVES]; counts.zones],
+        curves: [[Step::default(); CURVE_STEPS]; CURVES],
+        zones: vec![[0; ZONE_CURVES]; counts.zones],
         resources: Vec::new(),
         flowgates: Vec::new(),
+    };
+    for of in Curve::of(version) {
+        case.curves[of as usize] = curve(random, scale);
     }
+    case
 }
 
 fn reserve(random: &mut Random, scale: Scale) -> Reserve {
@@ -328,9 +370,13 @@ fn curve(random: &mut Random, scale: Scale) -> [Step; CURVE_STEPS] {
     steps
 }
 
-/// A resource of a case whose market-wide figures stand, and five quantities
-/// that keep its own rows; those of a tripped one are an off-line one's.
-fn resource_with_schedule(random: &mut Random, case: &Case, scale: Scale) -> (Resource, [Kw; 5]) {
+/// A resource of a case whose market-wide figures stand, and quantities that
+/// keep its own rows; those of a tripped one are an off-line one's.
+fn resource_with_schedule(
+    random: &mut Random,
+    case: &Case,
+    scale: Scale,
+) -> (Resource, [Kw; PRODUCTS]) {
     let mut resource = loose_resource(random, case.counts, scale);
     if operating_state(&resource) != OperatingState::Online {
         resource.steps = energy_steps(random, 0, scale);
@@ -455,23 +501,35 @@ fn energy_price(random: &mut Random, scale: Scale) -> Cents {
     }
 }
 
-fn offline_amounts(random: &mut Random, standing: &Standing, scale: Scale) -> [Kw; 5] {
-    let [_, _, contingency, _, short_term] = standing.bounds;
-    [0, 0, scale.draw(random, 0, contingency), 0, scale.draw(random, 0, short_term)]
+fn offline_amounts(random: &mut Random, standing: &Standing, scale: Scale) -> [Kw; PRODUCTS] {
+    let given = [Product::Contingency, Product::OfflineShortTerm];
+    amounts_of(given.map(|product| (product, scale.draw(random, 0, standing.bound(product)))))
 }
 
-fn online_amounts(random: &mut Random, standing: &Standing, energy: Kw, scale: Scale) -> [Kw; 5] {
-    let [_, regulating, contingency, short_term, _] = standing.bounds;
+fn online_amounts(
+    random: &mut Random,
+    standing: &Standing,
+    energy: Kw,
+    scale: Scale,
+) -> [Kw; PRODUCTS] {
+    use Product::{Contingency, Energy, OnlineShortTerm, Regulating};
     let above = standing.maximum - energy;
     let below = energy - standing.minimum;
-    let regulating = scale.draw(random, 0, regulating.min(above).min(below));
-    let contingency = scale.draw(random, 0, contingency.min(above - regulating));
-    let short_term = scale.draw(random, 0, short_term.min(above));
-    [energy, regulating, contingency, short_term, 0]
+    let mut draw = |product, most: Kw| scale.draw(random, 0, standing.bound(product).min(most));
+    let regulating = draw(Regulating, above.min(below));
+    let contingency = draw(Contingency, above - regulating);
+    let short_term = draw(OnlineShortTerm, above);
+    amounts_of([
+        (Energy, energy),
+        (Regulating, regulating),
+        (Contingency, contingency),
+        (OnlineShortTerm, short_term),
+    ])
 }
 
-fn energies(amounts: &[Kw]) -> Vec<Kw> {
-    amounts[Curve::ALL.len()..].chunks(Product::ALL.len()).map(|chunk| chunk[0]).collect()
+fn energies(case: &Case, amounts: &[Kw]) -> Vec<Kw> {
+    let energy = |resource| amounts[index_of(case.version, resource, Product::Energy)];
+    (0..case.counts.resources).map(energy).collect()
 }
 
 /// A flowgate that the energies keep, now and then with nothing to spare.
@@ -502,64 +560,64 @@ fn flowgate(random: &mut Random, energies: &[Kw], scale: Scale) -> Flowgate {
     Flowgate { limit, factors }
 }
 
-/// What the schedule gives towards each curve, in one zone or (None) in all.
+/// What the schedule gives towards each curve, in the order of `Curve::ALL`: in
+/// one zone or (None) in all.
 fn provided(case: &Case, amounts: &[Kw], zone: Option<usize>) -> [Kw; CURVES] {
     let mut sums = [0; CURVES];
     for (index, (resource, standing)) in case.resources.iter().zip(standings(case)).enumerate() {
         if zone.is_some_and(|zone| zone != resource.zone) {
             continue;
         }
-        let of = |product| amounts[index_of(index, product)];
+        let of = |product| amounts[index_of(case.version, index, product)];
         let spinning = if standing.spinning { of(Product::Contingency) } else { 0 };
-        sums[0] += of(Product::Regulating) + of(Product::Contingency);
-        sums[1] += of(Product::Regulating) + spinning;
-        sums[2] += of(Product::Regulating);
-        sums[3] += of(Product::OnlineShortTerm) + of(Product::OfflineShortTerm);
+        for curve in Curve::of(case.version) {
+            sums[curve as usize] += match curve {
+                Curve::Operating => of(Product::Regulating) + of(Product::Contingency),
+                Curve::RegulatingPlusSpinning => of(Product::Regulating) + spinning,
+                Curve::Regulating => of(Product::Regulating),
+                Curve::ShortTerm => of(Product::OnlineShortTerm) + of(Product::OfflineShortTerm),
+            };
+        }
     }
     sums
 }
 
 fn set_zone_requirements(random: &mut Random, case: &mut Case, amounts: &[Kw], scale: Scale) {
     for zone in 1..=case.counts.zones {
-        let most = provided(case, amounts, Some(zone)).map(|sum| sum.min(2_000_000));
+        let provided = provided(case, amounts, Some(zone));
+        let most = Curve::OF_ZONES.map(|curve| provided[curve as usize].min(2_000_000));
         case.zones[zone - 1] = most.map(|sum| scale.draw(random, 0, sum));
     }
 }
 
 fn clear_curves(random: &mut Random, case: &Case, amounts: &mut [Kw], scale: Scale) {
     let provided = provided(case, amounts, None);
-    for curve in Curve::ALL {
+    for curve in Curve::of(case.version) {
         let most = provided[curve as usize].min(case.curve_width(curve));
-        amounts[curve as usize] =
+        amounts[index_of_cleared(case.version, curve)] =
             if random.percent(60) { most } else { scale.draw(random, 0, most) };
     }
 }
 
 /// Prices of every row: any will do for acceptance, good or bad.
 fn row_prices(random: &mut Random, case: &Case, scale: Scale) -> Vec<i64> {
-    let counts = case.counts;
-    let first_flowgate = 5 + 4 * counts.zones;
-    let last_flowgate = first_flowgate + counts.flowgates;
     let highest = 1000 * scale.price;
     let manner = random.between(0, 4);
-    let row_count = rows(case, &standings(case)).len();
-    (0..row_count)
-        .map(|index| {
-            let is_flowgate = (first_flowgate..last_flowgate).contains(&index);
-            let (least, most, usual) = match index {
-                0 => (-400_000_000, 400_000_000, highest),
-                _ if is_flowgate => (0, 400_000, scale.price),
-                _ => (0, 400_000_000, highest),
-            };
-            match manner {
-                0 => 0,
-                1 => random.edgy(least, most),
-                2 => most,
-                3 if index == 0 => 1000 * random.between(0, scale.price),
-                3 => 0,
-                _ if random.percent(50) => 0,
-                _ => random.between(0, usual),
-            }
-        })
-        .collect()
+    let row_price = |name| {
+        let (least, most, usual) = match name {
+            RowName::Demand => (-400_000_000, 400_000_000, highest),
+            RowName::Flowgate(_) => (0, 400_000, scale.price),
+            RowName::Market(_) | RowName::Zone(..) | RowName::Of(..) => (0, 400_000_000, highest),
+        };
+        match manner {
+            0 => 0,
+            1 => random.edgy(least, most),
+            2 => most,
+            3 if name == RowName::Demand => 1000 * random.between(0, scale.price),
+            3 => 0,
+            _ if random.percent(50) => 0,
+            _ => random.between(0, usual),
+        }
+    };
+    row_names(case.version, case.counts).into_iter().map(row_price).collect()
 }

@@ -1,6 +1,17 @@
 //! The two files as lists of fields: how wide each field is, and which values
-//! it may hold. Reading, writing, the range checks and the generator's damage
-//! all go by these lists.
+//! it may hold, in each version. Reading, writing, the range checks and the
+//! generator's damage all go by these lists.
+
+pub mod tables;
+mod version;
+
+pub use tables::{case_fields, certificate_fields};
+pub use version::{Span, Version};
+
+use crate::case::Curve;
+use crate::rows::{quantities, row_names};
+use crate::standing::Product;
+use std::ops::RangeInclusive;
 
 /// The three counts that fix the shape of a case and of its certificates.
 #[derive(Clone, Copy, Debug, PartialEq, Eq)]
@@ -14,25 +25,19 @@ pub const MOST_RESOURCES: usize = 64;
 pub const MOST_ZONES: usize = 8;
 pub const MOST_FLOWGATES: usize = 12;
 
-pub const VERSION: u8 = 1;
-
-/// Length (four bytes), version and the three counts.
+/// Length (four bytes), version and the three counts, in every version.
 pub const HEAD: usize = 8;
 
+/// What 1 and 8 ask for at least, in every version.
 pub const SHORTEST_CASE: usize = 170;
 pub const SHORTEST_CERTIFICATE: usize = 44;
 
 pub const ENERGY_STEPS: usize = 10;
 pub const CURVE_STEPS: usize = 4;
+/// How many curves there are, in all versions together, and how many of them
+/// zones have requirements for.
 pub const CURVES: usize = 4;
-
-const POWER: i64 = 2_000_000;
-const DEMAND: i64 = 128_000_000;
-const MARKET_POWER: i64 = 8_000_000;
-const RAMP: i64 = 400_000;
-const FLOWGATE_LIMIT: i64 = 20_000_000;
-const OFFER_PRICE: i64 = 400_000;
-const ROW_PRICE: i64 = 400_000_000;
+pub const ZONE_CURVES: usize = 4;
 
 impl Counts {
     /// The counts as written, or None if one is out of range.
@@ -54,16 +59,25 @@ impl Counts {
         })
     }
 
-    pub fn row_count(self) -> usize {
-        5 + 4 * self.zones + self.flowgates + 5 * self.resources
+    pub fn row_count(self, version: Version) -> usize {
+        row_names(version, self).len()
     }
 
+    /// How many quantities a schedule has, which is the last place of 13.
+    pub fn place_count(self, version: Version) -> usize {
+        quantities(version, self).len()
+    }
+
+    /// LMPs and zone prices, as many in every version.
     pub fn price_count(self) -> usize {
         self.resources + 4 * self.zones
     }
 
-    pub fn charge_count(self) -> usize {
-        21 + 4 * self.zones + self.flowgates + 19 * self.resources
+    /// Rows; per resource its energy steps and its other products; curve steps.
+    pub fn charge_count(self, version: Version) -> usize {
+        let of_resource = ENERGY_STEPS + Product::beside_energy(version).count();
+        let curve_steps = CURVE_STEPS * Curve::of(version).count();
+        self.row_count(version) + of_resource * self.resources + curve_steps
     }
 }
 
@@ -118,15 +132,42 @@ impl Width {
     }
 }
 
+/// A part of a file: its head, or what stands in it once for each zone, resource
+/// or flowgate.
+#[derive(Clone, Copy, Debug, PartialEq, Eq)]
+pub enum Part {
+    Head,
+    Zone,
+    Resource,
+    Flowgate,
+}
+
+impl Part {
+    /// The zones, resources or flowgates that have such a part; 0 for the head.
+    fn owners(self, counts: Counts) -> RangeInclusive<usize> {
+        match self {
+            Part::Head => 0..=0,
+            Part::Zone => 1..=counts.zones,
+            Part::Resource => 1..=counts.resources,
+            Part::Flowgate => 1..=counts.flowgates,
+        }
+    }
+}
+
 /// One field of a file, and the values the paper allows it.
 #[derive(Clone, Copy, Debug, PartialEq, Eq)]
 pub struct Field {
     pub name: &'static str,
+    pub part: Part,
     /// The zone, resource or flowgate it belongs to, from 1; 0 if to none.
     pub of: usize,
+    /// Which of its name it is there, from 0: of steps and shift factors.
+    pub index: usize,
     pub width: Width,
     pub least: i64,
     pub most: i64,
+    /// Whether it is a certificate's quantity; its other fields are prices.
+    pub quantity: bool,
 }
 
 impl Field {
@@ -135,179 +176,12 @@ impl Field {
     }
 
     pub fn is_of_flowgate(&self) -> bool {
-        matches!(self.name, "flowgate limit" | "shift factor" | "flowgate price")
+        self.part == Part::Flowgate
     }
 }
 
-/// Fields as they are listed, each with the owner named last.
-#[derive(Default)]
-struct List {
-    fields: Vec<Field>,
-    of: usize,
-}
-
-impl List {
-    fn add(&mut self, name: &'static str, width: Width, least: i64, most: i64) {
-        self.fields.push(Field { name, of: self.of, width, least, most });
-    }
-
-    fn power(&mut self, names: &[&'static str]) {
-        for name in names {
-            self.add(name, Width::U32, 0, POWER);
-        }
-    }
-
-    fn offer_prices(&mut self, names: &[&'static str]) {
-        for name in names {
-            self.add(name, Width::U32, 0, OFFER_PRICE);
-        }
-    }
-
-    fn row_prices(&mut self, names: &[&'static str]) {
-        for name in names {
-            self.add(name, Width::U32, 0, ROW_PRICE);
-        }
-    }
-
-    /// A certificate's quantity. Its bound hangs on the case, so the field
-    /// itself may hold anything that fits.
-    fn quantities(&mut self, names: &[&'static str]) {
-        for name in names {
-            let (least, most) = Width::U32.ends();
-            self.add(name, Width::U32, least, most);
-        }
-    }
-}
-
-/// The fields of a case after its counts, in the order of the file.
-pub fn case_fields(counts: Counts) -> Vec<Field> {
-    let mut list = List::default();
-    market_fields(&mut list);
-    for zone in 1..=counts.zones {
-        list.of = zone;
-        list.power(&[
-            "operating requirement",
-            "regulating-plus-spinning requirement",
-            "regulating requirement",
-            "short-term requirement",
-        ]);
-    }
-    for resource in 1..=counts.resources {
-        list.of = resource;
-        resource_fields(&mut list, counts);
-    }
-    for flowgate in 1..=counts.flowgates {
-        list.of = flowgate;
-        list.add("flowgate limit", Width::I32, -FLOWGATE_LIMIT, FLOWGATE_LIMIT);
-        for _ in 0..counts.resources {
-            list.add("shift factor", Width::I16, -1000, 1000);
-        }
-    }
-    list.fields
-}
-
-fn market_fields(list: &mut List) {
-    list.add("demand", Width::U32, 0, DEMAND);
-    for (multiplier, minutes) in [
-        ("contingency multiplier", "contingency minutes"),
-        ("regulating multiplier", "regulating minutes"),
-        ("short-term multiplier", "short-term minutes"),
-    ] {
-        list.add(multiplier, Width::U16, 1, 5000);
-        list.add(minutes, Width::U16, 1, 60);
-    }
-    for share in ["regulating share", "contingency share", "short-term share"] {
-        list.add(share, Width::U16, 0, 1000);
-    }
-    for requirement in [
-        "regulating market requirement",
-        "contingency market requirement",
-        "short-term market requirement",
-    ] {
-        list.add(requirement, Width::U32, 0, MARKET_POWER);
-    }
-    for _ in 0..CURVES * CURVE_STEPS {
-        list.add("curve width", Width::U32, 0, MARKET_POWER);
-        list.add("curve price", Width::U32, 0, OFFER_PRICE);
-    }
-}
-
-fn resource_fields(list: &mut List, counts: Counts) {
-    list.add("kind", Width::U8, 1, 3);
-    list.add("zone", Width::U8, 1, counts.zones as i64);
-    list.add("breaker", Width::U8, 0, 1);
-    list.add("status", Width::U8, 0, 15);
-    list.add("minutes since trip", Width::U8, 0, 255);
-    list.add("flags", Width::U8, 0, 255);
-    list.add("estimated output", Width::I32, -POWER, POWER);
-    list.power(&[
-        "economic minimum",
-        "economic maximum",
-        "regulating minimum",
-        "regulating maximum",
-        "emergency minimum",
-        "emergency maximum",
-    ]);
-    for ramp in ["ramp up", "ramp down", "ramp rate"] {
-        list.add(ramp, Width::U32, 0, RAMP);
-    }
-    list.power(&[
-        "initial energy",
-        "off-line response limit",
-        "off-line short-term limit",
-        "self-schedule",
-    ]);
-    list.offer_prices(&["regulating price", "contingency price", "off-line short-term price"]);
-    for _ in 0..ENERGY_STEPS {
-        list.add("energy width", Width::U32, 0, POWER);
-        list.add("energy price", Width::I32, -OFFER_PRICE, OFFER_PRICE);
-    }
-}
-
-/// The fields of a certificate after its counts, in the order of the file.
-pub fn certificate_fields(counts: Counts) -> Vec<Field> {
-    let mut list = List::default();
-    list.quantities(&[
-        "cleared operating",
-        "cleared regulating-plus-spinning",
-        "cleared regulating",
-        "cleared short-term",
-    ]);
-    list.add("energy row price", Width::I32, -ROW_PRICE, ROW_PRICE);
-    let four_reserve_rows = [
-        "operating row price",
-        "regulating-plus-spinning row price",
-        "regulating row price",
-        "short-term row price",
-    ];
-    list.row_prices(&four_reserve_rows);
-    for zone in 1..=counts.zones {
-        list.of = zone;
-        list.row_prices(&four_reserve_rows);
-    }
-    for flowgate in 1..=counts.flowgates {
-        list.of = flowgate;
-        list.offer_prices(&["flowgate price"]);
-    }
-    for resource in 1..=counts.resources {
-        list.of = resource;
-        list.quantities(&[
-            "energy",
-            "regulating",
-            "contingency",
-            "on-line short-term",
-            "off-line short-term",
-        ]);
-        list.row_prices(&[
-            "price of energy, regulating and contingency within MAX",
-            "price of energy and short-term within MAX",
-            "price of energy less regulating above MIN",
-            "price of energy within HI",
-            "price of energy above LO",
-        ]);
-    }
-    list.fields
-}
+/// The fields of a case, or those of a certificate.
+pub type FieldsOf = fn(Version, Counts) -> Vec<Field>;
 
 /// Bytes of a file with these fields.
 pub fn file_size(fields: &[Field]) -> usize {
@@ -327,13 +201,55 @@ pub fn read_fields(file: &[u8], fields: &[Field]) -> Vec<i64> {
     numbers
 }
 
+/// The numbers of a head, or of one zone, resource or flowgate, found by the
+/// names of their fields.
+#[derive(Clone, Copy, Debug, Default)]
+pub struct Record<'a> {
+    fields: &'a [Field],
+    numbers: &'a [i64],
+}
+
+impl<'a> Record<'a> {
+    pub fn is_of(&self, part: Part) -> bool {
+        self.fields.first().is_some_and(|field| field.part == part)
+    }
+
+    /// The number of the field of this name; 0 if the version has none.
+    pub fn number(self, name: &'static str) -> i64 {
+        self.all(name).next().unwrap_or(0)
+    }
+
+    /// The numbers of all fields of this name, in their order.
+    pub fn all(self, name: &'static str) -> impl Iterator<Item = i64> + 'a {
+        let named = self.fields.iter().zip(self.numbers).filter(move |(it, _)| it.name == name);
+        named.map(|(_, number)| *number)
+    }
+}
+
+/// The records of a file, in its order. Numbers that are not there read as 0.
+pub fn records<'a>(fields: &'a [Field], numbers: &'a [i64]) -> Vec<Record<'a>> {
+    let mut left = numbers;
+    let mut records = Vec::new();
+    for fields in fields.chunk_by(|one, next| (one.part, one.of) == (next.part, next.of)) {
+        let (numbers, rest) = left.split_at(fields.len().min(left.len()));
+        left = rest;
+        records.push(Record { fields, numbers });
+    }
+    records
+}
+
 /// A whole file: length, version, counts and the numbers of the fields. A
 /// number must fit its field; callers have looked.
-pub fn write_fields(counts: Counts, numbers: &[i64], fields: &[Field]) -> Vec<u8> {
+pub fn write_fields(
+    version: Version,
+    counts: Counts,
+    numbers: &[i64],
+    fields: &[Field],
+) -> Vec<u8> {
     let size = file_size(fields);
     let mut out = Vec::with_capacity(size);
     Width::U32.write((size - 4) as i64, &mut out);
-    out.push(VERSION);
+    out.push(version.byte());
     for count in [counts.resources, counts.zones, counts.flowgates] {
         Width::U8.write(count as i64, &mut out);
     }
@@ -389,7 +305,7 @@ pub fn announced_counts(file: &[u8]) -> Option<Counts> {
     Counts::within_range(resources, zones, flowgates)
 }
 
-/// The version a file announces, or None if it is too short.
-pub fn announced_version(file: &[u8]) -> Option<u8> {
-    file.get(4).copied()
+/// The version a file announces, or None if it is unknown or missing.
+pub fn announced_version(file: &[u8]) -> Option<Version> {
+    Version::of(*file.get(4)?)
 }

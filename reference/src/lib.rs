@@ -8,6 +8,7 @@
 pub mod accounts;
 pub mod case;
 pub mod case_check;
+mod case_numbers;
 pub mod certificate;
 pub mod command;
 pub mod damage;

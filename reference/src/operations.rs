@@ -5,9 +5,12 @@
 use crate::accounts::accounts;
 use crate::case_check::{check_case, check_case_numbers};
 use crate::certificate::accept;
-use crate::layout::{self, Counts, Field, SHORTEST_CERTIFICATE, VERSION};
+use crate::layout::{self, Counts, Field, Version, SHORTEST_CERTIFICATE};
 use crate::prices::{lmps, zone_prices};
 use crate::refusal::{Failure, Refusal};
+
+/// The version of the files that the writers write.
+pub const WRITTEN: Version = Version::ONE;
 
 /// Cost, bound and gap of an accepted certificate, in grains.
 #[derive(Clone, Copy, Debug, PartialEq, Eq)]
@@ -32,7 +35,7 @@ pub fn prices(case: &[u8], certificate: &[u8], out: &mut [i64]) -> Result<usize,
     Ok(lend(&list, out)?)
 }
 
-/// Rows; per resource ten steps, g, c, s, o; sixteen curve steps.
+/// Rows; per resource its energy steps and its other products; curve steps.
 pub fn charges(case: &[u8], certificate: &[u8], out: &mut [i64]) -> Result<usize, Failure> {
     let accounts = accounts(&accept(case, certificate)?)?;
     Ok(lend(&accounts.charges, out)?)
@@ -50,11 +53,9 @@ pub fn read_certificate(file: &[u8], out: &mut [i64]) -> Result<usize, Refusal> 
     if file.len() < SHORTEST_CERTIFICATE || !layout::length_is_right(file) {
         return Err(Refusal::CertificateLength);
     }
-    if layout::announced_version(file) != Some(VERSION) {
-        return Err(Refusal::CertificateVersion);
-    }
+    let version = layout::announced_version(file).ok_or(Refusal::CertificateVersion)?;
     let counts = layout::announced_counts(file).ok_or(Refusal::Counts)?;
-    let fields = layout::certificate_fields(counts);
+    let fields = layout::certificate_fields(version, counts);
     if file.len() != layout::file_size(&fields) {
         return Err(Refusal::CertificateSize);
     }
@@ -63,18 +64,18 @@ pub fn read_certificate(file: &[u8], out: &mut [i64]) -> Result<usize, Refusal> 
 
 pub fn write_case(numbers: &[i64], out: &mut [u8]) -> Result<usize, Refusal> {
     let (counts, rest) = counts_and_rest(numbers)?;
-    let fields = layout::case_fields(counts);
+    let fields = layout::case_fields(WRITTEN, counts);
     check_fit(rest, &fields)?;
-    check_case_numbers(counts, rest, &fields)?;
-    lend(&layout::write_fields(counts, rest, &fields), out)
+    check_case_numbers(WRITTEN, counts, rest, &fields)?;
+    lend(&layout::write_fields(WRITTEN, counts, rest, &fields), out)
 }
 
 /// Any certificate that fits its fields can be written; the check judges it.
 pub fn write_certificate(numbers: &[i64], out: &mut [u8]) -> Result<usize, Refusal> {
     let (counts, rest) = counts_and_rest(numbers)?;
-    let fields = layout::certificate_fields(counts);
+    let fields = layout::certificate_fields(WRITTEN, counts);
     check_fit(rest, &fields)?;
-    lend(&layout::write_fields(counts, rest, &fields), out)
+    lend(&layout::write_fields(WRITTEN, counts, rest, &fields), out)
 }
 
 fn with_counts(counts: Counts, numbers: &[i64]) -> Vec<i64> {

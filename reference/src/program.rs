@@ -1,10 +1,11 @@
 //! The text of the paper's program: a case then a certificate in, lines out.
 
 use crate::accounts::accounts;
-use crate::certificate::{accept, Accepted};
+use crate::certificate::{accept, Accepted, Certificate};
 use crate::layout;
 use crate::prices::{lmps, zone_prices};
 use crate::refusal::{Failure, Refusal};
+use crate::rows::index_of;
 use crate::standing::Product;
 
 /// The most bytes the program takes.
@@ -38,13 +39,11 @@ fn accepted_text(accepted: &Accepted) -> Result<String, Failure> {
         format!("bound {}", accounts.bound),
         format!("gap {}", accounts.gap),
     ];
-    let of_resources = accepted.certificate.amounts[4..].chunks(Product::ALL.len());
-    let lmps = lmps(accepted)?;
-    for (index, ((standing, amounts), lmp)) in
-        accepted.standings.iter().zip(of_resources).zip(lmps).enumerate()
-    {
+    let Certificate { version, amounts, .. } = &accepted.certificate;
+    for (index, (standing, lmp)) in accepted.standings.iter().zip(lmps(accepted)?).enumerate() {
         let online = u8::from(standing.is_online());
-        lines.push(format!("{} {} {} {}", index + 1, online, spaced(amounts), lmp));
+        let printed = Product::PRINTED.map(|product| amounts[index_of(*version, index, product)]);
+        lines.push(format!("{} {} {} {}", index + 1, online, spaced(&printed), lmp));
     }
     for (index, prices) in zone_prices(accepted).into_iter().enumerate() {
         lines.push(format!("zone {} {}", index + 1, spaced(&prices.in_order())));

@@ -17,7 +17,7 @@ pub enum Refusal {
     CertificateCounts,
     CertificateSize,
     Price,
-    /// The first quantity above its bound: cleared 1 to 4, then five per resource.
+    /// The first quantity above its bound: the cleared ones, then each resource's.
     Quantity {
         place: usize,
     },

@@ -1,35 +1,127 @@
 //! The rows, each a full vector of coefficients over every quantity of a
 //! schedule. All are written 'at least': quantities on the left, figures of
-//! the case alone on the right.
+//! the case alone on the right. The version says which quantities and rows there
+//! are; what stands in them does not ask for it.
 
 use crate::case::{Case, Curve};
+use crate::layout::{Counts, Span, Version};
 use crate::standing::{Product, Standing};
 
 /// One quantity of a schedule.
 #[derive(Clone, Copy, Debug, PartialEq, Eq)]
 pub enum Quantity {
     Cleared(Curve),
-    /// A resource, counted from 0, and which of its five.
+    /// A resource, counted from 0, and which of its quantities.
     Of(usize, Product),
 }
 
 /// The quantities of a schedule in the order of their places: cleared first,
-/// then five per resource. Place 1 is the first of the list.
-pub fn quantities(resources: usize) -> Vec<Quantity> {
-    let cleared = Curve::ALL.into_iter().map(Quantity::Cleared);
-    let of_resources = (0..resources).flat_map(|resource| {
-        Product::ALL.into_iter().map(move |product| Quantity::Of(resource, product))
+/// then those of each resource. Place 1 is the first of the list.
+pub fn quantities(version: Version, counts: Counts) -> Vec<Quantity> {
+    let cleared = Curve::of(version).map(Quantity::Cleared);
+    let of_resources = (0..counts.resources).flat_map(|resource| {
+        Product::of(version).map(move |product| Quantity::Of(resource, product))
     });
     cleared.chain(of_resources).collect()
 }
 
+/// Where a curve's cleared quantity stands in the list of quantities, from 0.
+pub fn index_of_cleared(version: Version, curve: Curve) -> usize {
+    Curve::of(version).take_while(|other| *other != curve).count()
+}
+
 /// Where a resource's quantity stands in the list of quantities, from 0.
-pub fn index_of(resource: usize, product: Product) -> usize {
-    Curve::ALL.len() + Product::ALL.len() * resource + product as usize
+pub fn index_of(version: Version, resource: usize, product: Product) -> usize {
+    let before = Product::of(version).take_while(|other| *other != product).count();
+    Curve::of(version).count() + Product::of(version).count() * resource + before
+}
+
+/// The rows that each resource has of its own, in their order.
+#[derive(Clone, Copy, Debug, PartialEq, Eq)]
+pub enum Limit {
+    /// e + g + c within MAX.
+    Maximum,
+    /// e + s within MAX.
+    MaximumWithShortTerm,
+    /// e - g not below MIN.
+    Minimum,
+    /// e within HI.
+    High,
+    /// e not below LO.
+    Low,
+}
+
+impl Limit {
+    pub const ALL: [Limit; 5] =
+        [Limit::Maximum, Limit::MaximumWithShortTerm, Limit::Minimum, Limit::High, Limit::Low];
+
+    /// The versions that have it.
+    fn span(self) -> Span {
+        match self {
+            Limit::Maximum
+            | Limit::MaximumWithShortTerm
+            | Limit::Minimum
+            | Limit::High
+            | Limit::Low => Span::ALWAYS,
+        }
+    }
+
+    /// The rows of a version, in the same order.
+    pub fn of(version: Version) -> impl Iterator<Item = Limit> {
+        Limit::ALL.into_iter().filter(move |limit| limit.span().holds(version))
+    }
+
+    /// Those that say 'at most' are turned round.
+    fn coefficient(self, product: Product) -> i64 {
+        use Product::{Contingency, Energy, OnlineShortTerm, Regulating};
+        match (self, product) {
+            (Limit::Maximum, Energy | Regulating | Contingency) => -1,
+            (Limit::MaximumWithShortTerm, Energy | OnlineShortTerm) => -1,
+            (Limit::Minimum, Energy) => 1,
+            (Limit::Minimum, Regulating) => -1,
+            (Limit::High, Energy) => -1,
+            (Limit::Low, Energy) => 1,
+            _ => 0,
+        }
+    }
+
+    fn right(self, standing: &Standing) -> i64 {
+        match self {
+            Limit::Maximum | Limit::MaximumWithShortTerm => -standing.maximum,
+            Limit::Minimum => standing.minimum,
+            Limit::High => -standing.high,
+            Limit::Low => standing.low,
+        }
+    }
+}
+
+/// Which row one is. Zones, flowgates and resources are counted from 0.
+#[derive(Clone, Copy, Debug, PartialEq, Eq)]
+pub enum RowName {
+    Demand,
+    Market(Curve),
+    Zone(usize, Curve),
+    Flowgate(usize),
+    Of(usize, Limit),
+}
+
+/// The names of a version's rows, row 1 first.
+pub fn row_names(version: Version, counts: Counts) -> Vec<RowName> {
+    let mut names = vec![RowName::Demand];
+    names.extend(Curve::of(version).map(RowName::Market));
+    for zone in 0..counts.zones {
+        names.extend(Curve::OF_ZONES.map(|curve| RowName::Zone(zone, curve)));
+    }
+    names.extend((0..counts.flowgates).map(RowName::Flowgate));
+    for resource in 0..counts.resources {
+        names.extend(Limit::of(version).map(|limit| RowName::Of(resource, limit)));
+    }
+    names
 }
 
 #[derive(Clone, Debug, PartialEq, Eq)]
 pub struct Row {
+    pub name: RowName,
     /// One for each quantity, in the order of places.
     pub coefficients: Vec<i64>,
     pub right: i64,
@@ -38,11 +130,6 @@ pub struct Row {
 }
 
 impl Row {
-    fn at_least(quantities: &[Quantity], coefficient: impl Fn(Quantity) -> i64, right: i64) -> Row {
-        let coefficients = quantities.iter().map(|quantity| coefficient(*quantity)).collect();
-        Row { coefficients, right, equation: false }
-    }
-
     /// Left side less right side.
     pub fn slack(&self, amounts: &[i64]) -> i128 {
         let left: i128 = self
@@ -62,35 +149,45 @@ impl Row {
 
 /// Every row of the case, row 1 first.
 pub fn rows(case: &Case, standings: &[Standing]) -> Vec<Row> {
-    let quantities = quantities(case.resources.len());
-    let mut rows = vec![demand_row(case, &quantities)];
-    for curve in Curve::ALL {
-        rows.push(market_row(curve, standings, &quantities));
-    }
-    for (index, requirements) in case.zones.iter().enumerate() {
-        for (curve, requirement) in Curve::ALL.into_iter().zip(requirements) {
-            rows.push(zone_row(case, index + 1, curve, *requirement, standings, &quantities));
+    let quantities = quantities(case.version, case.counts);
+    let row = |name| {
+        let coefficient = |quantity: &Quantity| coefficient(case, standings, name, *quantity);
+        Row {
+            name,
+            coefficients: quantities.iter().map(coefficient).collect(),
+            right: right(case, standings, name),
+            equation: name == RowName::Demand,
         }
-    }
-    for flowgate in &case.flowgates {
-        let coefficient = |quantity| match quantity {
-            Quantity::Of(resource, Product::Energy) => -flowgate.factors[resource],
-            _ => 0,
-        };
-        rows.push(Row::at_least(&quantities, coefficient, -1000 * flowgate.limit));
-    }
-    for (resource, standing) in standings.iter().enumerate() {
-        rows.extend(resource_rows(resource, standing, &quantities));
-    }
-    rows
+    };
+    row_names(case.version, case.counts).into_iter().map(row).collect()
 }
 
-fn demand_row(case: &Case, quantities: &[Quantity]) -> Row {
-    let coefficient = |quantity| match quantity {
-        Quantity::Of(_, Product::Energy) => 1,
-        _ => 0,
+/// What a quantity counts in a row. Asked for every pair of the two, so it is
+/// worth unfolding.
+#[inline(always)]
+fn coefficient(case: &Case, standings: &[Standing], row: RowName, quantity: Quantity) -> i64 {
+    let serves = |resource: usize, product, curve| {
+        i64::from(serves(product, standings[resource].spinning, curve))
     };
-    Row { equation: true, ..Row::at_least(quantities, coefficient, case.demand) }
+    match (row, quantity) {
+        (RowName::Demand, Quantity::Of(_, Product::Energy)) => 1,
+        (RowName::Market(curve), Quantity::Cleared(cleared)) => -i64::from(cleared == curve),
+        (RowName::Market(curve), Quantity::Of(resource, product)) => {
+            serves(resource, product, curve)
+        }
+        (RowName::Zone(zone, curve), Quantity::Of(resource, product))
+            if case.resources[resource].zone == zone + 1 =>
+        {
+            serves(resource, product, curve)
+        }
+        (RowName::Flowgate(flowgate), Quantity::Of(resource, Product::Energy)) => {
+            -case.flowgates[flowgate].factors[resource]
+        }
+        (RowName::Of(own, limit), Quantity::Of(resource, product)) if own == resource => {
+            limit.coefficient(product)
+        }
+        _ => 0,
+    }
 }
 
 /// Whether a product counts towards a curve's row.
@@ -107,48 +204,12 @@ fn serves(product: Product, spinning: bool, curve: Curve) -> bool {
     }
 }
 
-fn market_row(curve: Curve, standings: &[Standing], quantities: &[Quantity]) -> Row {
-    let coefficient = |quantity| match quantity {
-        Quantity::Cleared(cleared) => -i64::from(cleared == curve),
-        Quantity::Of(resource, product) => {
-            i64::from(serves(product, standings[resource].spinning, curve))
-        }
-    };
-    Row::at_least(quantities, coefficient, 0)
-}
-
-fn zone_row(
-    case: &Case,
-    zone: usize,
-    curve: Curve,
-    requirement: i64,
-    standings: &[Standing],
-    quantities: &[Quantity],
-) -> Row {
-    let coefficient = |quantity| match quantity {
-        Quantity::Cleared(_) => 0,
-        Quantity::Of(resource, product) => i64::from(
-            case.resources[resource].zone == zone
-                && serves(product, standings[resource].spinning, curve),
-        ),
-    };
-    Row::at_least(quantities, coefficient, requirement)
-}
-
-/// The five rows of one resource; those that say 'at most' are turned round.
-fn resource_rows(resource: usize, standing: &Standing, quantities: &[Quantity]) -> [Row; 5] {
-    let row = |coefficients: [i64; 5], right: i64| {
-        let coefficient = |quantity| match quantity {
-            Quantity::Of(other, product) if other == resource => coefficients[product as usize],
-            _ => 0,
-        };
-        Row::at_least(quantities, coefficient, right)
-    };
-    [
-        row([-1, -1, -1, 0, 0], -standing.maximum),
-        row([-1, 0, 0, -1, 0], -standing.maximum),
-        row([1, -1, 0, 0, 0], standing.minimum),
-        row([-1, 0, 0, 0, 0], -standing.high),
-        row([1, 0, 0, 0, 0], standing.low),
-    ]
+fn right(case: &Case, standings: &[Standing], row: RowName) -> i64 {
+    match row {
+        RowName::Demand => case.demand,
+        RowName::Market(_) => 0,
+        RowName::Zone(zone, curve) => case.requirement(zone, curve),
+        RowName::Flowgate(flowgate) => -1000 * case.flowgates[flowgate].limit,
+        RowName::Of(resource, limit) => limit.right(&standings[resource]),
+    }
 }

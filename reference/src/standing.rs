@@ -1,11 +1,12 @@
 //! What is settled about a resource before any row: whether it is on-line,
 //! off-line or tripped, its limits for the interval, and the upper bounds of its
-//! five quantities.
+//! quantities.
 
 use crate::case::{flag, status, Case, Kind, Limits, Reserve, Resource};
+use crate::layout::{Span, Version};
 use crate::units::Kw;
 
-/// The five quantities of a resource, in the order of the certificate.
+/// The quantities of a resource, in the order of the certificate.
 #[derive(Clone, Copy, Debug, PartialEq, Eq)]
 pub enum Product {
     Energy,
@@ -15,14 +16,47 @@ pub enum Product {
     OfflineShortTerm,
 }
 
+/// How many products there are, in all versions together.
+pub const PRODUCTS: usize = 5;
+
 impl Product {
-    pub const ALL: [Product; 5] = [
+    pub const ALL: [Product; PRODUCTS] = [
         Product::Energy,
         Product::Regulating,
         Product::Contingency,
         Product::OnlineShortTerm,
         Product::OfflineShortTerm,
     ];
+
+    /// Those that the program prints, in every version.
+    pub const PRINTED: [Product; 5] = [
+        Product::Energy,
+        Product::Regulating,
+        Product::Contingency,
+        Product::OnlineShortTerm,
+        Product::OfflineShortTerm,
+    ];
+
+    /// The versions that have it.
+    fn span(self) -> Span {
+        match self {
+            Product::Energy
+            | Product::Regulating
+            | Product::Contingency
+            | Product::OnlineShortTerm
+            | Product::OfflineShortTerm => Span::ALWAYS,
+        }
+    }
+
+    /// The products of a version, in the same order.
+    pub fn of(version: Version) -> impl Iterator<Item = Product> {
+        Product::ALL.into_iter().filter(move |product| product.span().holds(version))
+    }
+
+    /// Those that are priced and charged as they are; energy is by its steps.
+    pub fn beside_energy(version: Version) -> impl Iterator<Item = Product> {
+        Product::of(version).filter(|product| *product != Product::Energy)
+    }
 }
 
 /// What the on-line step of the paper tells apart; 'tripped' is of request 2 of
@@ -45,13 +79,17 @@ pub struct Standing {
     /// Whether its contingency reserve counts as spinning.
     pub spinning: bool,
     /// Upper bounds, in the order of `Product::ALL`.
-    pub bounds: [Kw; 5],
+    pub bounds: [Kw; PRODUCTS],
 }
 
 impl Standing {
     /// Off-line and tripped alike are not.
     pub fn is_online(&self) -> bool {
         self.state == OperatingState::Online
+    }
+
+    pub fn bound(&self, product: Product) -> Kw {
+        self.bounds[product as usize]
     }
 }
 
@@ -115,29 +153,32 @@ fn online_standing(case: &Case, resource: &Resource) -> Standing {
     let maximum = limits_in_force(resource, flag::EMERGENCY_MAXIMUM).maximum;
     let minimum = limits_in_force(resource, flag::EMERGENCY_MINIMUM).minimum;
     let high = resource.initial + INTERVAL_MINUTES * resource.ramp_up;
-    let spinning = resource.has_flag(flag::SPINNING);
-    let supplemental = resource.has_status(status::ONLINE_SUPPLEMENTAL);
-    let reserve_bound = |offered: bool, reserve: &Reserve| {
-        if offered {
-            ramp(resource.ramp_rate, reserve).min(share(reserve)).min(maximum)
-        } else {
-            0
-        }
-    };
     Standing {
         state: OperatingState::Online,
         maximum,
         minimum,
         high,
         low: online_low(resource, high, maximum),
-        spinning,
-        bounds: [
-            resource.steps.iter().map(|step| step.width).sum(),
-            reserve_bound(resource.has_flag(flag::REGULATING), &case.regulating),
-            reserve_bound(spinning || supplemental, &case.contingency),
-            reserve_bound(resource.has_flag(flag::ONLINE_SHORT_TERM), &case.short_term),
-            0,
-        ],
+        spinning: resource.has_flag(flag::SPINNING),
+        bounds: Product::ALL.map(|product| online_bound(case, resource, maximum, product)),
+    }
+}
+
+fn online_bound(case: &Case, resource: &Resource, maximum: Kw, product: Product) -> Kw {
+    let supplemental = resource.has_status(status::ONLINE_SUPPLEMENTAL);
+    let (offered, reserve) = match product {
+        Product::Energy => return resource.steps.iter().map(|step| step.width).sum(),
+        Product::Regulating => (resource.has_flag(flag::REGULATING), &case.regulating),
+        Product::Contingency => {
+            (resource.has_flag(flag::SPINNING) || supplemental, &case.contingency)
+        }
+        Product::OnlineShortTerm => (resource.has_flag(flag::ONLINE_SHORT_TERM), &case.short_term),
+        Product::OfflineShortTerm => return 0,
+    };
+    if offered {
+        ramp(resource.ramp_rate, reserve).min(share(reserve)).min(maximum)
+    } else {
+        0
     }
 }
 
@@ -168,16 +209,6 @@ fn limits_in_force(resource: &Resource, released: i64) -> Limits {
 /// Also what a tripped resource would have if it were off-line.
 pub(crate) fn offline_standing(case: &Case, resource: &Resource) -> Standing {
     let most = resource.economic.maximum;
-    let contingency = if resource.has_flag(flag::OFFLINE_SUPPLEMENTAL) {
-        most.min(resource.offline_response).min(share(&case.contingency))
-    } else {
-        0
-    };
-    let short_term = if resource.has_flag(flag::OFFLINE_SHORT_TERM) {
-        most.min(resource.offline_short_term)
-    } else {
-        0
-    };
     Standing {
         state: OperatingState::Offline,
         maximum: most,
@@ -185,12 +216,31 @@ pub(crate) fn offline_standing(case: &Case, resource: &Resource) -> Standing {
         high: most,
         low: 0,
         spinning: false,
-        bounds: [0, 0, contingency, 0, short_term],
+        bounds: Product::ALL.map(|product| offline_bound(case, resource, product)),
+    }
+}
+
+fn offline_bound(case: &Case, resource: &Resource, product: Product) -> Kw {
+    let (offered, limit) = match product {
+        Product::Contingency => (
+            resource.has_flag(flag::OFFLINE_SUPPLEMENTAL),
+            resource.offline_response.min(share(&case.contingency)),
+        ),
+        Product::OfflineShortTerm => {
+            (resource.has_flag(flag::OFFLINE_SHORT_TERM), resource.offline_short_term)
+        }
+        Product::Energy | Product::Regulating | Product::OnlineShortTerm => return 0,
+    };
+    if offered {
+        limit.min(resource.economic.maximum)
+    } else {
+        0
     }
 }
 
 /// The limits of an off-line resource, and nothing that it can sell (02,
 /// request 2).
 fn tripped_standing(case: &Case, resource: &Resource) -> Standing {
-    Standing { state: OperatingState::Tripped, bounds: [0; 5], ..offline_standing(case, resource) }
+    let bounds = [0; PRODUCTS];
+    Standing { state: OperatingState::Tripped, bounds, ..offline_standing(case, resource) }
 }

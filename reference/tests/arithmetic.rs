@@ -4,16 +4,20 @@
 mod common;
 
 use nostwier_reference::accounts::{accounts, cost, listed, listed_amounts, Accounts};
-use nostwier_reference::case::{flag, Curve, Flowgate, Kind, Step};
+use nostwier_reference::case::{flag, Case, Curve, Flowgate, Kind, Step};
 use nostwier_reference::certificate::{accept, first_above_bound, first_broken, Accepted};
 use nostwier_reference::generate::{
     full_pair, pair_of_counts, pair_of_scale, random_pair, varied_pair, Pair, Scale,
 };
-use nostwier_reference::layout::{case_fields, Counts, MOST_FLOWGATES, MOST_RESOURCES, MOST_ZONES};
+use nostwier_reference::layout::{
+    case_fields, Counts, Version, MOST_FLOWGATES, MOST_RESOURCES, MOST_ZONES,
+};
 use nostwier_reference::prices::lmps;
 use nostwier_reference::random::Random;
-use nostwier_reference::rows::index_of;
-use nostwier_reference::standing::{standings, OperatingState, Product};
+use nostwier_reference::rows::{
+    index_of, index_of_cleared, quantities, row_names, Quantity, RowName,
+};
+use nostwier_reference::standing::{standings, OperatingState, Product, PRODUCTS};
 use nostwier_reference::worked;
 use std::collections::{BTreeMap, BTreeSet};
 
@@ -23,7 +27,8 @@ fn accepted(pair: &Pair) -> Accepted {
 
 fn assert_charges_make_the_gap(accepted: &Accepted) -> Accounts {
     let accounts = accounts(accepted).expect("every number fits");
-    assert_eq!(accounts.charges.len(), accepted.case.counts.charge_count());
+    let Case { version, counts, .. } = accepted.case;
+    assert_eq!(accounts.charges.len(), counts.charge_count(version));
     assert!(accounts.charges.iter().all(|charge| *charge >= 0));
     let sum: i128 = accounts.charges.iter().map(|charge| i128::from(*charge)).sum();
     assert_eq!(sum, i128::from(accounts.gap));
@@ -39,16 +44,17 @@ fn neighbour(random: &mut Random, accepted: &Accepted, amounts: &[i64]) -> Vec<i
         .collect();
     if !online.is_empty() && random.percent(60) {
         let (from, to) = (random.pick(&online), random.pick(&online));
-        let most = other[index_of(from, Product::Energy)];
+        let [from, to] =
+            [from, to].map(|index| index_of(accepted.case.version, index, Product::Energy));
         let part = random.between(1, 50);
-        let moved = random.between(1, 1 + most / part);
-        other[index_of(from, Product::Energy)] -= moved;
-        other[index_of(to, Product::Energy)] += moved;
+        let moved = random.between(1, 1 + other[from] / part);
+        other[from] -= moved;
+        other[to] += moved;
     }
     if random.percent(60) {
         let index = random.index(other.len());
-        let is_energy = index >= 4 && (index - 4).is_multiple_of(5);
-        if !is_energy {
+        let quantity = quantities(accepted.case.version, accepted.case.counts)[index];
+        if !matches!(quantity, Quantity::Of(_, Product::Energy)) {
             other[index] = random.between(0, 2 * other[index] + 10);
         }
     }
@@ -115,18 +121,19 @@ fn the_cost_is_met_kw_by_kw() {
     let mut not_zero = 0;
     for _ in 0..200 {
         let counts = Counts { resources: 5, zones: 2, flowgates: 1 };
-        let accepted = accepted(&pair_of_scale(&mut random, counts, Scale::SMALL));
+        let accepted = accepted(&pair_of_scale(&mut random, Version::ONE, counts, Scale::SMALL));
         let amounts = &accepted.certificate.amounts;
         let mut sum = 0;
         for (index, resource) in accepted.case.resources.iter().enumerate() {
-            let of = |product| amounts[index_of(index, product)];
+            let of = |product| amounts[index_of(Version::ONE, index, product)];
             sum += cost_by_the_kw(&resource.steps, of(Product::Energy));
             sum += of(Product::Regulating) * resource.regulating_price;
             sum += of(Product::Contingency) * resource.contingency_price;
             sum += of(Product::OfflineShortTerm) * resource.offline_short_term_price;
         }
-        for curve in Curve::ALL {
-            sum -= cost_by_the_kw(&accepted.case.curves[curve as usize], amounts[curve as usize]);
+        for curve in Curve::of(Version::ONE) {
+            let cleared = amounts[index_of_cleared(Version::ONE, curve)];
+            sum -= cost_by_the_kw(&accepted.case.curves[curve as usize], cleared);
         }
         assert_eq!(accounts(&accepted).expect("fits").cost, 1000 * sum);
         not_zero += usize::from(sum != 0);
@@ -139,7 +146,7 @@ const LARGEST: Counts =
 
 /// The widest case there is: every figure and price at an end of its range.
 fn widest(factor: i64, energy_price: i64, row_price: i64) -> Pair {
-    let mut pair = pair_of_scale(&mut Random::new(24), LARGEST, Scale::FULL);
+    let mut pair = pair_of_scale(&mut Random::new(24), Version::ONE, LARGEST, Scale::FULL);
     for resource in &mut pair.case.resources {
         let mut widest = worked::pair().case.resources.remove(0);
         widest.zone = resource.zone;
@@ -156,16 +163,15 @@ fn widest(factor: i64, energy_price: i64, row_price: i64) -> Pair {
     // Factors above 0 let only a part of the energy through.
     let energy = if factor > 0 { 300_000 } else { 2_000_000 };
     pair.case.demand = LARGEST.resources as i64 * energy;
-    pair.certificate.amounts = vec![0; 4 + 5 * LARGEST.resources];
+    pair.certificate.amounts = vec![0; LARGEST.place_count(Version::ONE)];
     for resource in 0..LARGEST.resources {
-        pair.certificate.amounts[index_of(resource, Product::Energy)] = energy;
+        pair.certificate.amounts[index_of(Version::ONE, resource, Product::Energy)] = energy;
     }
-    let first_flowgate = 5 + 4 * LARGEST.zones;
-    let flowgates = first_flowgate..first_flowgate + LARGEST.flowgates;
-    for (index, price) in pair.certificate.row_prices.iter_mut().enumerate() {
-        *price = match index {
-            0 => row_price,
-            _ if flowgates.contains(&index) => 400_000,
+    let names = row_names(Version::ONE, LARGEST);
+    for (price, name) in pair.certificate.row_prices.iter_mut().zip(names) {
+        *price = match name {
+            RowName::Demand => row_price,
+            RowName::Flowgate(_) => 400_000,
             _ => 400_000_000,
         };
     }
@@ -197,11 +203,11 @@ fn generated_cases_show_every_kind_of_standing() {
     let mut random = Random::new(25);
     let mut states: BTreeMap<&str, usize> = BTreeMap::new();
     let mut spinning = 0;
-    let mut products = [0; 5];
+    let mut products = [0; PRODUCTS];
     let mut cleared = 0;
     for _ in 0..100 {
         let counts = Counts { resources: 10, zones: 3, flowgates: 2 };
-        let pair = pair_of_counts(&mut random, counts);
+        let pair = pair_of_counts(&mut random, Version::ONE, counts);
         for standing in standings(&pair.case) {
             let state = match standing.state {
                 OperatingState::Online => "on-line",
@@ -211,11 +217,11 @@ fn generated_cases_show_every_kind_of_standing() {
             *states.entry(state).or_default() += 1;
             spinning += usize::from(standing.spinning);
         }
-        for (index, amount) in pair.certificate.amounts.iter().enumerate() {
-            if index < 4 {
-                cleared += usize::from(*amount > 0);
-            } else {
-                products[(index - 4) % 5] += usize::from(*amount > 0);
+        let quantities = quantities(Version::ONE, counts);
+        for (quantity, amount) in quantities.into_iter().zip(&pair.certificate.amounts) {
+            match quantity {
+                Quantity::Cleared(_) => cleared += usize::from(*amount > 0),
+                Quantity::Of(_, product) => products[product as usize] += usize::from(*amount > 0),
             }
         }
     }
@@ -232,7 +238,11 @@ fn generated_self_schedules_stand_on_every_side_of_floor_high_and_maximum() {
     let mut random = Random::new(28);
     let mut met: BTreeMap<&str, usize> = BTreeMap::new();
     for _ in 0..200 {
-        let pair = varied_pair(&mut random, Counts { resources: 10, zones: 3, flowgates: 2 });
+        let pair = varied_pair(
+            &mut random,
+            Version::ONE,
+            Counts { resources: 10, zones: 3, flowgates: 2 },
+        );
         let accepted = accepted(&pair);
         for (resource, standing) in pair.case.resources.iter().zip(&accepted.standings) {
             if !standing.is_online() || !resource.has_flag(flag::SELF_SCHEDULED) {
@@ -260,7 +270,11 @@ fn generated_trips_stand_on_both_sides_of_fifteen_minutes() {
     let mut random = Random::new(29);
     let mut met: BTreeMap<(i64, &str), usize> = BTreeMap::new();
     for _ in 0..400 {
-        let pair = varied_pair(&mut random, Counts { resources: 10, zones: 3, flowgates: 2 });
+        let pair = varied_pair(
+            &mut random,
+            Version::ONE,
+            Counts { resources: 10, zones: 3, flowgates: 2 },
+        );
         accepted(&pair);
         for resource in &pair.case.resources {
             let trip = resource.minutes_since_trip;
@@ -288,9 +302,9 @@ fn generated_cases_reach_both_ends_of_every_range() {
     let mut sizes = BTreeSet::new();
     for _ in 0..3000 {
         let pair = random_pair(&mut random);
-        let counts = pair.case.counts;
+        let (version, counts) = (pair.case.version, pair.case.counts);
         sizes.insert((counts.resources, counts.zones, counts.flowgates));
-        for (field, number) in case_fields(counts).iter().zip(pair.case.numbers()) {
+        for (field, number) in case_fields(version, counts).iter().zip(pair.case.numbers()) {
             let (least, most) = ends.entry(field.name).or_default();
             *least |= number == field.least;
             *most |= number == field.most;
@@ -309,7 +323,7 @@ fn full_pairs_are_accepted_and_fit() {
     for index in 0..60 {
         let (zones, flowgates) = (1 + index % MOST_ZONES, index % (MOST_FLOWGATES + 1));
         let counts = Counts { resources: MOST_RESOURCES, zones, flowgates };
-        let accepted = accepted(&full_pair(&mut random, counts));
+        let accepted = accepted(&full_pair(&mut random, Version::ONE, counts));
         assert_charges_make_the_gap(&accepted);
     }
 }

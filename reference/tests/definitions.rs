@@ -7,7 +7,7 @@ use nostwier_reference::accounts::accounts;
 use nostwier_reference::case::{flag, status, Case, Flowgate, Kind, Limits, Reserve, Resource};
 use nostwier_reference::certificate::accept;
 use nostwier_reference::generate::Pair;
-use nostwier_reference::layout::{case_fields, certificate_fields, Counts, Field};
+use nostwier_reference::layout::{case_fields, certificate_fields, Counts, Field, Version};
 use nostwier_reference::rows::rows;
 use nostwier_reference::standing::{
     operating_state, standing, standings, OperatingState, Standing,
@@ -375,7 +375,7 @@ fn two_resources() -> Pair {
     pair.certificate.counts = counts;
     pair.certificate.amounts = vec![0; 14];
     pair.certificate.amounts[4] = 60_000;
-    pair.certificate.row_prices = vec![0; counts.row_count()];
+    pair.certificate.row_prices = vec![0; counts.row_count(Version::ONE)];
     pair
 }
 
@@ -533,53 +533,68 @@ fn range(fields: &[Field], name: &str) -> (i64, i64) {
     (field.least, field.most)
 }
 
+type Ranges = (&'static [&'static str], (i64, i64));
+
+const POWER: (i64, i64) = (0, 2_000_000);
+
+const HEAD_RANGES: [Ranges; 7] = [
+    (&["demand"], (0, 128_000_000)),
+    (&["contingency multiplier", "regulating multiplier", "short-term multiplier"], (1, 5_000)),
+    (&["contingency minutes", "regulating minutes", "short-term minutes"], (1, 60)),
+    (&["regulating share", "contingency share", "short-term share"], (0, 1_000)),
+    (
+        &[
+            "regulating market requirement",
+            "contingency market requirement",
+            "short-term market requirement",
+        ],
+        (0, 8_000_000),
+    ),
+    (
+        &[
+            "operating curve width",
+            "regulating-plus-spinning curve width",
+            "regulating curve width",
+            "short-term curve width",
+        ],
+        (0, 8_000_000),
+    ),
+    (
+        &[
+            "operating curve price",
+            "regulating-plus-spinning curve price",
+            "regulating curve price",
+            "short-term curve price",
+        ],
+        (0, 400_000),
+    ),
+];
+
+const PART_RANGES: [Ranges; 17] = [
+    (&["operating requirement", "regulating-plus-spinning requirement"], POWER),
+    (&["regulating requirement", "short-term requirement"], POWER),
+    (&["kind"], (1, 3)),
+    (&["zone"], (1, 3)),
+    (&["breaker"], (0, 1)),
+    (&["status"], (0, 15)),
+    (&["minutes since trip", "flags"], (0, 255)),
+    (&["estimated output"], (-2_000_000, 2_000_000)),
+    (&["economic minimum", "economic maximum", "regulating minimum"], POWER),
+    (&["regulating maximum", "emergency minimum", "emergency maximum"], POWER),
+    (&["ramp up", "ramp down", "ramp rate"], (0, 400_000)),
+    (&["initial energy", "off-line response limit", "off-line short-term limit"], POWER),
+    (&["self-schedule", "energy width"], POWER),
+    (&["regulating price", "contingency price", "off-line short-term price"], (0, 400_000)),
+    (&["energy price"], (-400_000, 400_000)),
+    (&["flowgate limit"], (-20_000_000, 20_000_000)),
+    (&["shift factor"], (-1_000, 1_000)),
+];
+
 #[test]
 fn the_ranges_of_a_case() {
-    let fields = case_fields(Counts { resources: 2, zones: 3, flowgates: 1 });
-    let power = (0, 2_000_000);
+    let fields = case_fields(Version::ONE, Counts { resources: 2, zones: 3, flowgates: 1 });
     let mut seen = 0;
-    for (names, expected) in [
-        (&["demand"][..], (0, 128_000_000)),
-        (&["contingency multiplier", "regulating multiplier", "short-term multiplier"], (1, 5_000)),
-        (&["contingency minutes", "regulating minutes", "short-term minutes"], (1, 60)),
-        (&["regulating share", "contingency share", "short-term share"], (0, 1_000)),
-        (
-            &[
-                "regulating market requirement",
-                "contingency market requirement",
-                "short-term market requirement",
-                "curve width",
-            ],
-            (0, 8_000_000),
-        ),
-        (
-            &[
-                "operating requirement",
-                "regulating-plus-spinning requirement",
-                "regulating requirement",
-                "short-term requirement",
-            ],
-            power,
-        ),
-        (
-            &["curve price", "regulating price", "contingency price", "off-line short-term price"],
-            (0, 400_000),
-        ),
-        (&["kind"], (1, 3)),
-        (&["zone"], (1, 3)),
-        (&["breaker"], (0, 1)),
-        (&["status"], (0, 15)),
-        (&["minutes since trip", "flags"], (0, 255)),
-        (&["estimated output"], (-2_000_000, 2_000_000)),
-        (&["economic minimum", "economic maximum", "regulating minimum"], power),
-        (&["regulating maximum", "emergency minimum", "emergency maximum"], power),
-        (&["ramp up", "ramp down", "ramp rate"], (0, 400_000)),
-        (&["initial energy", "off-line response limit"], power),
-        (&["off-line short-term limit", "self-schedule", "energy width"], power),
-        (&["energy price"], (-400_000, 400_000)),
-        (&["flowgate limit"], (-20_000_000, 20_000_000)),
-        (&["shift factor"], (-1_000, 1_000)),
-    ] {
+    for (names, expected) in HEAD_RANGES.into_iter().chain(PART_RANGES) {
         for name in names {
             assert_eq!(range(&fields, name), expected, "{name}");
             seen += fields.iter().filter(|field| field.name == *name).count();
@@ -590,7 +605,7 @@ fn the_ranges_of_a_case() {
 
 #[test]
 fn the_ranges_of_a_certificate() {
-    let fields = certificate_fields(Counts { resources: 1, zones: 1, flowgates: 1 });
+    let fields = certificate_fields(Version::ONE, Counts { resources: 1, zones: 1, flowgates: 1 });
     assert_eq!(range(&fields, "energy row price"), (-400_000_000, 400_000_000));
     assert_eq!(range(&fields, "flowgate price"), (0, 400_000));
     let mut prices = 0;

@@ -5,8 +5,9 @@ use nostwier_reference::accounts::accounts;
 use nostwier_reference::certificate::{accept, upper_bounds, Accepted};
 use nostwier_reference::enumerate::{cheapest, schedule_count, step_to_next};
 use nostwier_reference::generate::{pair_of_scale, Scale};
-use nostwier_reference::layout::Counts;
+use nostwier_reference::layout::{Counts, Version};
 use nostwier_reference::random::Random;
+use nostwier_reference::rows::RowName;
 use nostwier_reference::standing::standings;
 
 const MOST_SCHEDULES: u128 = 150_000;
@@ -20,7 +21,7 @@ fn tiny(random: &mut Random, resources: usize) -> (Accepted, i128) {
             zones: random.between(1, 2) as usize,
             flowgates: random.between(0, 2) as usize,
         };
-        let pair = pair_of_scale(random, counts, Scale::TINY);
+        let pair = pair_of_scale(random, Version::ONE, counts, Scale::TINY);
         let bounds = upper_bounds(&pair.case, &standings(&pair.case));
         if !(200..=MOST_SCHEDULES).contains(&schedule_count(&bounds)) {
             continue;
@@ -39,13 +40,12 @@ fn bound(accepted: &Accepted) -> i128 {
 
 /// Raises the bound by changing one price at a time, as far as that goes.
 fn climb(accepted: &mut Accepted) -> i128 {
-    let counts = accepted.case.counts;
-    let flowgates = 5 + 4 * counts.zones..5 + 4 * counts.zones + counts.flowgates;
     let mut best = bound(accepted);
     loop {
         let before = best;
         for index in 0..accepted.certificate.row_prices.len() {
-            let unit = if flowgates.contains(&index) { 1 } else { 1000 };
+            let is_flowgate = matches!(accepted.rows[index].name, RowName::Flowgate(_));
+            let unit = if is_flowgate { 1 } else { 1000 };
             for change in [-9, -3, -1, 1, 3, 9] {
                 let old = accepted.certificate.row_prices[index];
                 let new = old + change * unit;

@@ -7,7 +7,7 @@ mod common;
 use common::{check, program_text, refused};
 use nostwier_reference::damage::too_many_flowgates;
 use nostwier_reference::generate::{pair_of_counts, varied_pair, Pair};
-use nostwier_reference::layout::{Counts, MOST_FLOWGATES};
+use nostwier_reference::layout::{Counts, Version, MOST_FLOWGATES};
 use nostwier_reference::random::Random;
 use nostwier_reference::{
     charges, check_case, check_certificate, prices, program, read_case, read_certificate,
@@ -19,7 +19,7 @@ const TOO_MANY: [usize; 6] = [13, 14, 15, 16, 17, 255];
 /// An accepted pair of 12 flowgates, laid out with so many.
 fn laid_out(flowgates: usize) -> Pair {
     let counts = Counts { resources: 2, zones: 1, flowgates: 12 };
-    pair_of_counts(&mut Random::new(81), counts).with_flowgates(flowgates)
+    pair_of_counts(&mut Random::new(81), Version::ONE, counts).with_flowgates(flowgates)
 }
 
 /// Every number of the two files, for the writers.
@@ -84,7 +84,7 @@ fn every_operation_refuses_more_by_three() {
 fn the_largest_and_the_smallest_case_end_at_twelve() {
     for (resources, zones) in [(1, 1), (64, 8)] {
         let counts = Counts { resources, zones, flowgates: 12 };
-        let pair = varied_pair(&mut Random::new(82), counts);
+        let pair = varied_pair(&mut Random::new(82), Version::ONE, counts);
         assert!(answers(&pair).iter().all(Result::is_ok), "R {resources}");
         for flowgates in [13, 16, 17] {
             let expected = [Refusal::Counts; 8].map(refused);
@@ -128,12 +128,13 @@ fn a_case_of_more_is_three_whatever_the_certificate() {
 /// Another size and a field out of range come later, length and version earlier.
 #[test]
 fn three_keeps_its_place_when_files_are_read() {
+    let unknown = Version::NEWEST.byte() + 1;
     for flowgates in TOO_MANY {
         let mut case = laid_out(12).case_file();
         case[7] = flowgates as u8;
         case[8] = 255;
         assert_eq!(read_case(&case, &mut []), Err(Refusal::Counts));
-        case[4] = 2;
+        case[4] = unknown;
         assert_eq!(read_case(&case, &mut []), Err(Refusal::CaseVersion));
         case.pop();
         assert_eq!(read_case(&case, &mut []), Err(Refusal::CaseLength));
@@ -141,7 +142,7 @@ fn three_keeps_its_place_when_files_are_read() {
         let mut certificate = laid_out(12).certificate_file();
         certificate[7] = flowgates as u8;
         assert_eq!(read_certificate(&certificate, &mut []), Err(Refusal::Counts));
-        certificate[4] = 2;
+        certificate[4] = unknown;
         assert_eq!(read_certificate(&certificate, &mut []), Err(Refusal::CertificateVersion));
         certificate.pop();
         assert_eq!(read_certificate(&certificate, &mut []), Err(Refusal::CertificateLength));
@@ -172,7 +173,7 @@ fn a_pair_laid_out_with_other_flowgates_stays_accepted_up_to_twelve() {
     let mut random = Random::new(83);
     for own in [0, 1, 5, 12] {
         let counts = Counts { resources: 3, zones: 2, flowgates: own };
-        let pair = varied_pair(&mut random, counts);
+        let pair = varied_pair(&mut random, Version::ONE, counts);
         for flowgates in 0..=12 {
             let other = pair.with_flowgates(flowgates);
             assert!(check(&other).is_ok(), "{own} flowgates as {flowgates}");

@@ -1,6 +1,8 @@
 //! Reading into numbers and writing from them.
 
+use nostwier_reference::case::{Case, Flowgate, Kind, Limits, Reserve, Resource, Step};
 use nostwier_reference::generate::random_pair;
+use nostwier_reference::layout::{Counts, Version};
 use nostwier_reference::random::Random;
 use nostwier_reference::{
     read_case, read_certificate, worked, write_case, write_certificate, Refusal,
@@ -47,6 +49,67 @@ fn multipliers_lie_beside_their_minutes_and_shares_start_with_regulating() {
     let mut numbers = vec![0; 200];
     read_case(&pair.case_file(), &mut numbers).expect("valid");
     assert_eq!(numbers[4..16], [1, 2, 3, 4, 5, 6, 7, 8, 9, 10, 11, 12]);
+}
+
+fn steps<const N: usize>(first: i64) -> [Step; N] {
+    std::array::from_fn(|step| Step {
+        width: first + 2 * step as i64,
+        price: first + 2 * step as i64 + 1,
+    })
+}
+
+/// A resource whose figures are 3, 4 and so on in the order of the paper, after
+/// kind 2, zone 1 and a closed breaker.
+fn numbered_resource() -> Resource {
+    Resource {
+        kind: Kind::Intermittent,
+        zone: 1,
+        breaker_closed: true,
+        status: 3,
+        minutes_since_trip: 4,
+        flags: 5,
+        output: 6,
+        economic: Limits { minimum: 7, maximum: 8 },
+        regulating: Limits { minimum: 9, maximum: 10 },
+        emergency: Limits { minimum: 11, maximum: 12 },
+        ramp_up: 13,
+        ramp_down: 14,
+        ramp_rate: 15,
+        initial: 16,
+        offline_response: 17,
+        offline_short_term: 18,
+        self_schedule: 19,
+        regulating_price: 20,
+        contingency_price: 21,
+        offline_short_term_price: 22,
+        steps: steps(23),
+    }
+}
+
+#[test]
+fn every_figure_of_a_case_stands_where_the_paper_has_it() {
+    let reserve = |multiplier, minutes, share, requirement| Reserve {
+        multiplier,
+        minutes,
+        share,
+        requirement,
+    };
+    let case = Case {
+        version: Version::ONE,
+        counts: Counts { resources: 1, zones: 2, flowgates: 2 },
+        demand: 1,
+        contingency: reserve(2, 3, 9, 12),
+        regulating: reserve(4, 5, 8, 11),
+        short_term: reserve(6, 7, 10, 13),
+        curves: [steps(14), steps(22), steps(30), steps(38)],
+        zones: vec![[46, 47, 48, 49], [50, 51, 52, 53]],
+        resources: vec![numbered_resource()],
+        flowgates: [54, 56].map(|limit| Flowgate { limit, factors: vec![limit + 1] }).into(),
+    };
+    let before: Vec<i64> = (1..=53).collect();
+    let resource: Vec<i64> = [2, 1, 1].into_iter().chain(3..=42).collect();
+    assert_eq!(case.numbers(), [&before[..], &resource, &[54, 55, 56, 57]].concat());
+    assert_eq!(Case::from_numbers(case.version, case.counts, &case.numbers()), case);
 }
 
 #[test]

@@ -4,7 +4,7 @@ mod common;
 
 use nostwier_reference::damage::{every_damage, random_harm};
 use nostwier_reference::generate::{pair_of_counts, Pair};
-use nostwier_reference::layout::{Counts, MOST_FLOWGATES, MOST_RESOURCES, MOST_ZONES};
+use nostwier_reference::layout::{Counts, Version, MOST_FLOWGATES, MOST_RESOURCES, MOST_ZONES};
 use nostwier_reference::random::Random;
 use nostwier_reference::worked;
 use std::io::Write;
@@ -92,7 +92,7 @@ fn check_prints_the_worked_interval() {
 #[test]
 fn check_prints_a_line_per_resource_and_zone() {
     let counts = Counts { resources: MOST_RESOURCES, zones: MOST_ZONES, flowgates: MOST_FLOWGATES };
-    let pair = pair_of_counts(&mut Random::new(41), counts);
+    let pair = pair_of_counts(&mut Random::new(41), Version::ONE, counts);
     let printed = text(&good(&["check"], &joined(&pair)));
     let lines: Vec<&str> = printed.lines().collect();
     assert_eq!(lines.len(), 3 + 64 + 8);
@@ -122,7 +122,7 @@ fn case_prints_accepted_or_the_refusal() {
 #[test]
 fn prices_and_charges_print_a_number_a_line() {
     let counts = Counts { resources: 5, zones: 3, flowgates: 2 };
-    let pair = pair_of_counts(&mut Random::new(42), counts);
+    let pair = pair_of_counts(&mut Random::new(42), Version::ONE, counts);
     let printed = numbers(&good(&["prices"], &joined(&pair)));
     assert_eq!(printed.len(), 5 + 4 * 3);
     let printed = numbers(&good(&["charges"], &joined(&pair)));
@@ -138,8 +138,11 @@ fn prices_and_charges_print_a_number_a_line() {
 
 #[test]
 fn reading_and_writing_go_round() {
-    let pair =
-        pair_of_counts(&mut Random::new(43), Counts { resources: 3, zones: 2, flowgates: 1 });
+    let pair = pair_of_counts(
+        &mut Random::new(43),
+        Version::ONE,
+        Counts { resources: 3, zones: 2, flowgates: 1 },
+    );
     let case = pair.case_file();
     assert_eq!(good(&["write-case"], &good(&["read-case"], &case)), case);
     let certificate = pair.certificate_file();
@@ -275,7 +278,7 @@ fn generate_keeps_to_its_options() {
     let path = directory.to_str().expect("text");
     good(&["generate", "6", "1", path, "--systematic", "--size", "1", "1", "0"], b"");
     let counts = Counts { resources: 1, zones: 1, flowgates: 0 };
-    let damages = every_damage(&pair_of_counts(&mut Random::new(6), counts));
+    let damages = every_damage(&pair_of_counts(&mut Random::new(6), Version::ONE, counts));
     let made = std::fs::read_dir(&directory).expect("made").count();
     assert_eq!(made, 2 * (damages.len() + 1));
 }

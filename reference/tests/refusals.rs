@@ -7,7 +7,7 @@ use nostwier_reference::case::Flowgate;
 use nostwier_reference::damage::{every_damage, random_bytes, random_harm};
 use nostwier_reference::generate::{pair_of_counts, random_pair, varied_pair};
 use nostwier_reference::layout::{
-    case_fields, certificate_fields, Counts, MOST_FLOWGATES, MOST_RESOURCES, MOST_ZONES,
+    case_fields, certificate_fields, Counts, Version, MOST_FLOWGATES, MOST_RESOURCES, MOST_ZONES,
 };
 use nostwier_reference::random::Random;
 use nostwier_reference::{
@@ -32,7 +32,7 @@ fn every_damage_meets_its_refusal() {
     let mut met = BTreeSet::new();
     let sizes = [(1, 1, 0), (1, 2, 1), (2, 3, 2), (4, 1, 1), (7, 8, 3), (3, 2, MOST_FLOWGATES)];
     for (resources, zones, flowgates) in sizes.into_iter().cycle().take(18) {
-        let pair = varied_pair(&mut random, Counts { resources, zones, flowgates });
+        let pair = varied_pair(&mut random, Version::ONE, Counts { resources, zones, flowgates });
         for damaged in every_damage(&pair) {
             let answer = check_certificate(&damaged.case, &damaged.certificate);
             assert_eq!(answer, refused(damaged.refusal), "{}", damaged.what);
@@ -49,7 +49,7 @@ fn damage_reaches_every_row_and_place() {
     let mut rows = BTreeSet::new();
     let mut places = BTreeSet::new();
     for _ in 0..60 {
-        let pair = pair_of_counts(&mut random, counts);
+        let pair = pair_of_counts(&mut random, Version::ONE, counts);
         for damaged in every_damage(&pair) {
             match damaged.refusal {
                 Refusal::Row { row } => rows.insert(row),
@@ -58,14 +58,14 @@ fn damage_reaches_every_row_and_place() {
             };
         }
     }
-    assert_eq!(rows, (1..=counts.row_count()).collect());
+    assert_eq!(rows, (1..=counts.row_count(Version::ONE)).collect());
     assert_eq!(places, (1..=14).collect());
 }
 
 #[test]
 fn the_largest_case_meets_its_refusals_too() {
     let counts = Counts { resources: MOST_RESOURCES, zones: MOST_ZONES, flowgates: MOST_FLOWGATES };
-    let pair = pair_of_counts(&mut Random::new(4), counts);
+    let pair = pair_of_counts(&mut Random::new(4), Version::ONE, counts);
     assert!(check(&pair).is_ok());
     let damages = every_damage(&pair);
     assert!(damages.len() > 10_000);
@@ -132,20 +132,21 @@ fn the_ends_of_every_range_are_inside() {
     pair.case.flowgates = vec![Flowgate { limit: 0, factors: vec![0] }];
     pair.case.resources[0].economic = Default::default();
     pair.case.resources[0].steps = Default::default();
-    let counts = pair.case.counts;
-    let fields = case_fields(counts);
+    let (version, counts) = (pair.case.version, pair.case.counts);
+    let fields = case_fields(version, counts);
     let numbers = pair.case.numbers();
+    let is_step_price = |name: &str| name == "energy price" || name.ends_with("curve price");
     let mut looked_at = 0;
     for (index, field) in fields.iter().enumerate() {
         for number in [field.least, field.most] {
             let mut changed = numbers.clone();
             changed[index] = number;
-            let case = nostwier_reference::case::Case::from_numbers(counts, &changed);
+            let case = nostwier_reference::case::Case::from_numbers(version, counts, &changed);
             let pair = nostwier_reference::generate::Pair { case, ..pair.clone() };
             let behind_none = number > 0 && !FIRST_WIDTHS.contains(&index);
             let expected = match field.name {
-                "curve width" | "energy width" if behind_none => Err(Refusal::StepRule),
-                "curve price" | "energy price" if number != 0 => Err(Refusal::StepRule),
+                name if name.ends_with("width") && behind_none => Err(Refusal::StepRule),
+                name if is_step_price(name) && number != 0 => Err(Refusal::StepRule),
                 name if name.ends_with("minimum") && number > 0 => Err(Refusal::LimitPair),
                 _ => Ok(()),
             };
@@ -161,8 +162,8 @@ fn the_ends_of_every_range_are_inside() {
 fn sizes_are_those_of_the_paper() {
     for (resources, zones, flowgates) in [(1, 1, 0), (64, 8, 12), (5, 3, 2)] {
         let counts = Counts { resources, zones, flowgates };
-        let case = case_fields(counts);
-        let certificate = certificate_fields(counts);
+        let case = case_fields(Version::ONE, counts);
+        let certificate = certificate_fields(Version::ONE, counts);
         assert_eq!(3 + case.len(), 48 + 4 * zones + 43 * resources + flowgates * (resources + 1));
         assert_eq!(3 + certificate.len(), 12 + 4 * zones + flowgates + 10 * resources);
         assert_eq!(
@@ -186,7 +187,7 @@ fn no_harm_makes_an_operation_panic_or_disagree() {
             zones: random.between(1, 3) as usize,
             flowgates: random.between(0, 2) as usize,
         };
-        let pair = pair_of_counts(&mut random, counts);
+        let pair = pair_of_counts(&mut random, Version::ONE, counts);
         let (case, certificate) = random_harm(&mut random, &pair);
         let mut numbers = vec![0; 4000];
         let answer = check_certificate(&case, &certificate);

@@ -4,7 +4,7 @@
 use nostwier_reference::case::{flag, Flowgate, Step};
 use nostwier_reference::certificate::{first_above_bound, first_broken};
 use nostwier_reference::generate::{pair_of_scale, Scale};
-use nostwier_reference::layout::Counts;
+use nostwier_reference::layout::{Counts, Version};
 use nostwier_reference::random::Random;
 use nostwier_reference::solve::programme::Programme;
 use nostwier_reference::solve::{mps, rounding};
@@ -102,7 +102,7 @@ fn a_held_programme_charges_flowgates_to_the_columns() {
     let mut case = worked::pair().case;
     case.counts.flowgates = 1;
     case.flowgates = vec![Flowgate { limit: 5, factors: vec![-60] }];
-    let mut prices = vec![0; case.counts.row_count()];
+    let mut prices = vec![0; case.counts.row_count(case.version)];
     prices[9] = 200;
     let text = mps::text(&Programme::of_case(&case).with_flowgate_prices(&prices), false);
     // Each kW relieves the flowgate by 60 thousandths, at 200 cents: 12,000.
@@ -128,9 +128,9 @@ fn curves_clear_what_the_reserves_bear() {
 #[test]
 fn prices_are_rounded_into_their_range() {
     let counts = Counts { resources: 1, zones: 1, flowgates: 1 };
-    let pair = pair_of_scale(&mut Random::new(51), counts, Scale::COMMON);
+    let pair = pair_of_scale(&mut Random::new(51), Version::ONE, counts, Scale::COMMON);
     let programme = Programme::of_case(&pair.case);
-    let mut duals = vec![0.0; counts.row_count()];
+    let mut duals = vec![0.0; counts.row_count(Version::ONE)];
     duals[0] = -4.000_000_06e8;
     duals[1] = 4.000_000_06e8;
     duals[2] = -0.6;
@@ -152,7 +152,7 @@ fn a_schedule_a_little_off_is_repaired() {
             zones: random.between(1, 4) as usize,
             flowgates: random.between(0, 4) as usize,
         };
-        let pair = pair_of_scale(&mut random, counts, Scale::COMMON);
+        let pair = pair_of_scale(&mut random, Version::ONE, counts, Scale::COMMON);
         let programme = Programme::of_case(&pair.case);
         let mut amounts = pair.certificate.amounts;
         for (amount, bound) in amounts.iter_mut().zip(&programme.bounds) {

@@ -1,6 +1,8 @@
 //! The vectors for a host, taken apart record by record.
 
-use nostwier_reference::layout::{self, Counts, MOST_FLOWGATES, MOST_RESOURCES, MOST_ZONES};
+use nostwier_reference::layout::{
+    self, Counts, FieldsOf, Version, MOST_FLOWGATES, MOST_RESOURCES, MOST_ZONES,
+};
 use nostwier_reference::{
     charges, check_case, check_certificate, prices, read_case, read_certificate, worked,
     write_case, write_certificate, Failure, Totals,
@@ -290,11 +292,8 @@ fn every_refusal_of_every_operation_is_met() {
 
 /// The end of its range that a number lies past, and the field's name, if it is
 /// the only one of the file.
-fn only_field_past_an_end(
-    file: &[u8],
-    fields: fn(Counts) -> Vec<layout::Field>,
-) -> Option<(&'static str, bool)> {
-    let fields = fields(layout::announced_counts(file)?);
+fn only_field_past_an_end(file: &[u8], fields: FieldsOf) -> Option<(&'static str, bool)> {
+    let fields = fields(layout::announced_version(file)?, layout::announced_counts(file)?);
     let numbers = layout::read_fields(file, &fields);
     let mut past = fields.iter().zip(&numbers).filter(|(field, number)| !field.allows(**number));
     let (field, number) = past.next()?;
@@ -302,9 +301,9 @@ fn only_field_past_an_end(
 }
 
 /// Every field past each end that its bytes can pass.
-fn every_end(fields: fn(Counts) -> Vec<layout::Field>) -> BTreeSet<(&'static str, bool)> {
+fn every_end(fields: FieldsOf) -> BTreeSet<(&'static str, bool)> {
     let mut ends = BTreeSet::new();
-    for field in fields(Counts { resources: 1, zones: 1, flowgates: 1 }) {
+    for field in fields(Version::ONE, Counts { resources: 1, zones: 1, flowgates: 1 }) {
         for (number, upper) in [(field.least - 1, false), (field.most + 1, true)] {
             if field.width.holds(number) {
                 ends.insert((field.name, upper));
@@ -378,7 +377,7 @@ fn a_host_has_room_for_every_input_and_buffer() {
 #[test]
 fn lists_for_writers_are_damaged_in_every_way() {
     for (operation, fields) in [
-        ("write-case", layout::case_fields as fn(Counts) -> Vec<layout::Field>),
+        ("write-case", layout::case_fields as FieldsOf),
         ("write-certificate", layout::certificate_fields),
     ] {
         let mut met = BTreeSet::new();
@@ -389,7 +388,7 @@ fn lists_for_writers_are_damaged_in_every_way() {
                 }
                 _ => None,
             };
-            let Some(fields) = counts.map(fields) else {
+            let Some(fields) = counts.map(|counts| fields(Version::ONE, counts)) else {
                 met.insert(if record.numbers.len() < 3 { "under three" } else { "counts" });
                 continue;
             };
@@ -436,29 +435,27 @@ fn cases_are_small_and_large() {
     assert!(accepted.len() >= 30, "{} sizes", accepted.len());
 }
 
-type Fields = fn(Counts) -> Vec<layout::Field>;
-
 /// A list for a writer with 12 flowgates in place of its own, if it is as long
 /// as its counts say.
-fn list_of_twelve(numbers: &[i64], fields: Fields) -> Option<Vec<i64>> {
+fn list_of_twelve(numbers: &[i64], fields: FieldsOf) -> Option<Vec<i64>> {
     let [resources, zones, flowgates, rest @ ..] = numbers else { return None };
     let own = Counts::of_any_flowgates(*resources, *zones, *flowgates)?;
-    let twelve = fields(Counts { flowgates: 12, ..own });
-    let rest = (rest.len() == fields(own).len())
-        .then(|| layout::with_flowgates(&fields(own), rest, &twelve))?;
+    let [own, twelve] =
+        [own, Counts { flowgates: 12, ..own }].map(|counts| fields(Version::ONE, counts));
+    let rest = (rest.len() == own.len()).then(|| layout::with_flowgates(&own, rest, &twelve))?;
     Some([&[*resources, *zones, 12], &rest[..]].concat())
 }
 
 /// A file with 12 flowgates in place of its own, if its size is what its counts
 /// need.
-fn file_of_twelve(file: &[u8], fields: Fields) -> Option<Vec<u8>> {
+fn file_of_twelve(file: &[u8], fields: FieldsOf) -> Option<Vec<u8>> {
     let [resources, zones, flowgates] = layout::announced_numbers(file)?;
     let own = Counts::of_any_flowgates(resources, zones, flowgates)?;
     let twelve = Counts { flowgates: 12, ..own };
-    let (own, wanted) = (fields(own), fields(twelve));
+    let [own, wanted] = [own, twelve].map(|counts| fields(Version::ONE, counts));
     (file.len() == layout::file_size(&own)).then(|| {
         let numbers = layout::with_flowgates(&own, &layout::read_fields(file, &own), &wanted);
-        layout::write_fields(twelve, &numbers, &wanted)
+        layout::write_fields(Version::ONE, twelve, &numbers, &wanted)
     })
 }
 

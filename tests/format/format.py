@@ -2,8 +2,9 @@
 
 A field's entry is used as a reader of the page would use it: bytes are put into a file at the entry's offset in its type, and
 the library says what they mean. So an offset, type, range, refusal, size, place, row number or order that the library does not
-have is noticed. Words are held to the Python module, whose messages have them too. At the end entries are made wrong one
-by one, and each time a check must fail.
+have is noticed. Words are held to the Python module, whose messages have them too. All that is done for each version of the
+files: a column whose head names a version is of that one, and – in it stands for what the version has not. At the end entries
+are made wrong one by one, and each time a check must fail.
 
     python3 format.py TOP      TOP is the top of the repository
 """
@@ -17,12 +18,12 @@ from pathlib import Path
 from typing import NamedTuple
 
 import nostwier
-from nostwier import Case, Certificate, Counts, Refused, library
+from nostwier import Case, Certificate, Counts, Refused, layout, library
 
 TYPES = {"u8": (1, False), "u16": (2, False), "u32": (4, False), "i16": (2, True), "i32": (4, True)}
 STEPS = {"curves": 4, "energy_steps": 10}
 CURVES = ["operating", "regulating_plus_spinning", "regulating", "short_term"]
-COUNTS = [Counts(1, 1, 0), Counts(3, 2, 2), Counts(2, 8, 1), Counts(5, 1, library.MOST.flowgates), library.MOST]
+COUNTS = [Counts(1, 1, 0), Counts(3, 2, 2), Counts(2, 8, 1), Counts(5, 1, layout.MOST.flowgates), layout.MOST]
 SMALL = Counts(3, 2, 2)
 
 
@@ -109,9 +110,23 @@ PREFIX = {
 }
 
 
+# the columns of a table, that which differs from version to version first
+SIZES = ("", "what")
+PARTS = ("begins at", "part", "bytes")
+FIELDS = ("offset", "type", "field", "range", "refused", "meaning")
+NUMBERED = {
+    "Places of refusal 13": ("place", "quantity"), "Rows of refusal 14": ("row", "rule", "price in the certificate"),
+    "Order of the charges": ("charge", "of"), "Order of the prices": ("number", "price"),
+}
+OF_VERSION = re.compile(r"(?:(.+), )?version (\d+)")  # the head of a column
+
+
 class Page:
-    def __init__(self, text):
+    """The page as a reader of files of one version has it."""
+
+    def __init__(self, text, version):
         self.text = text
+        self.version = version
         self.tables = {}
         for table in tables(text):
             self.tables.setdefault(table.title, []).append(table)
@@ -121,8 +136,26 @@ class Page:
             raise Wrong(f"below '{title}' there is not one table")
         return self.tables[title][0]
 
+    def column(self, table, name):
+        """Which column has this: one of the version, or one of all."""
+        own = f"{name}, version {self.version}" if name else f"version {self.version}"
+        for head in (own, name):
+            if head in table.head:
+                return table.head.index(head)
+        raise Wrong(f"the table below '{table.title}' has no column '{own}'")
+
+    def lines(self, title, names):
+        """These cells of each line of a table that is of the version."""
+        table = self.table(title)
+        columns = [self.column(table, name) for name in names]
+        return [[cells[column] for column in columns] for cells in table.rows if cells[columns[0]] != "–"]
+
     def sizes(self):
-        return dict(self.table("Sizes").rows)
+        return {what: formula for formula, what in self.lines("Sizes", SIZES)}
+
+    def pair(self, counts, off_line=None):
+        """A pair of files of the version."""
+        return roomy(counts, self.version, off_line)
 
     def size(self, what, counts):
         return evaluate(self.sizes()[what], **of_counts(counts))
@@ -131,13 +164,13 @@ class Page:
         """The entries of a file ('Case' or 'Certificate'), in the page's order."""
         given = of_counts(counts)
         found = []
-        for part, begin, size in self.table(f"The {file.lower()}").rows:
+        for begin, part, size in self.lines(f"The {file.lower()}", PARTS):
             part, *letter = part.split()
             for number in range(1, {"head": 1, "zone": given["Z"], "resource": given["R"], "flowgate": given["F"]}[part] + 1):
                 numbers = {letter[0]: number} if letter else {}
                 start = evaluate(begin, **given, **numbers)
                 of_part = []
-                for cells in self.table(f"{file}: {part}").rows:
+                for cells in self.lines(f"{file}: {part}", FIELDS):
                     of_part += self.expand(file, counts, part, numbers, start, cells)
                 found += sorted(of_part, key=lambda entry: entry.offset)  # a step's width and price take turns
                 if found[-1].offset + found[-1].size != start + evaluate(size, **given):
@@ -145,7 +178,7 @@ class Page:
         return found
 
     def expand(self, file, counts, part, numbers, start, cells):
-        offset, kind, field, _, span, refused, meaning = cells
+        offset, kind, field, span, refused, meaning = cells
         if kind not in TYPES or not re.fullmatch(r"`[\w.\[\]]+`", field):
             raise Wrong(f"{file}: {part}: {kind} {field}")
         field = field.strip("`")
@@ -179,7 +212,7 @@ class Page:
         return least, most
 
     def numbered(self, title):
-        return self.table(title).rows
+        return self.lines(title, NUMBERED[title])
 
 
 # ---- a case with room everywhere, and its certificate; by names
@@ -201,7 +234,7 @@ class Pair(NamedTuple):
 
 
 @functools.lru_cache(maxsize=None)
-def roomy(counts, off_line=None):
+def roomy(counts, version, off_line=None):
     """A pair in which every row but row 1 has slack, and the steps' prices have room between them. None is changed for good."""
     reserve = {"multiplier": 1000, "minutes": 10, "share": 500, "requirement": 400_000}
     steps = [{"width": 12_000 + 100 * j, "price": 1_000 + 50 * j} for j in range(10)]
@@ -238,6 +271,7 @@ def roomy(counts, off_line=None):
         "cleared": {name: 500 for name in CURVES},
         "row_prices": {"energy": 0, "zones": [{}] * counts.zones, "flowgates": [0] * counts.flowgates}, "resources": dispatch,
     })
+    case.version = certificate.version = version
     return Pair(case, certificate, case.to_bytes(), certificate.to_bytes())
 
 
@@ -289,11 +323,12 @@ def check_sizes(page):
     yield "the ends of R, Z and F", all(most) and [tuple(map(int, m.groups())) for m in most] == [
         (entry.least, entry.most) for entry in page.entries("Case", SMALL)[2:5]]
     for counts in COUNTS:
-        _, _, case, certificate = roomy(counts)
+        _, _, case, certificate = page.pair(counts)
         both = (case, len(case), certificate, len(certificate))
         for what, found in {
             "bytes of a case": len(case), "bytes of a certificate": len(certificate),
-            "quantities": len(nostwier.quantity_labels(counts)), "rows": len(nostwier.row_labels(counts)),
+            "quantities": len(nostwier.quantity_labels(counts, version=page.version)),
+            "rows": len(nostwier.row_labels(counts, version=page.version)),
         }.items():
             yield f"{what}, {tuple(counts)}", page.size(what, counts) == found
         # a buffer of so many numbers is long enough, and one shorter is not
@@ -311,7 +346,7 @@ def check_layout(page):
     """Entries stand side by side from 0 to the end; the file's numbers are the entries' values in their order."""
     luck = random.Random(1)
     for counts in COUNTS:
-        for file, thing, _, write, read in roomy(counts).each():
+        for file, thing, _, write, read in page.pair(counts).each():
             entries = page.entries(file, counts)
             begins = [entry.offset for entry in entries] + [page.size(f"bytes of a {file.lower()}", counts)]
             side_by_side = all(entry.offset + entry.size == after for entry, after in zip(entries, begins[1:]))
@@ -327,12 +362,12 @@ def check_layout(page):
             bytes_ = write(numbers)
             values = [entry.get(bytes_) for entry in entries]
             yield f"{file} {tuple(counts)}: the numbers", values[2:] == numbers == read(bytes_)
-            yield f"{file} {tuple(counts)}: length and version", values[:2] == [len(bytes_) - 4, 1]
+            yield f"{file} {tuple(counts)}: length and version", values[:2] == [len(bytes_) - 4, page.version]
 
 
 def check_names(page):
     """A field that is set by its name changes the bytes at its offset, and no others."""
-    for file, thing, before, _, _ in roomy(SMALL).each():
+    for file, thing, before, _, _ in page.pair(SMALL).each():
         for entry in page.entries(file, SMALL):
             if entry.field in HEADS:
                 continue
@@ -352,7 +387,7 @@ def check_names(page):
 
 def check_types(page):
     """A number fits a field exactly if the type can hold it."""
-    for file, thing, _, write, _ in roomy(Counts(2, 2, 1)).each():
+    for file, thing, _, write, _ in page.pair(Counts(2, 2, 1)).each():
         numbers = thing.numbers()
         for i, entry in enumerate(page.entries(file, Counts(2, 2, 1))[2:]):
             if entry.field in HEADS:
@@ -368,7 +403,7 @@ def check_types(page):
 
 def check_ranges(page):
     """The ends of a range are not refused by the entry's refusal; one beyond is."""
-    _, _, case, certificate = roomy(SMALL)
+    _, _, case, certificate = page.pair(SMALL)
     yield "the pair is accepted", refusal(nostwier.check_certificate, case, certificate) == (0, 0)
     for file, bytes_ in (("Case", case), ("Certificate", certificate)):
 
@@ -420,10 +455,10 @@ def repeats(label, counts):
 def check_orders_in_words(page):
     for counts in COUNTS[:4]:
         given = of_counts(counts)
-        rows = nostwier.row_labels(counts)
+        rows = nostwier.row_labels(counts, version=page.version)
         for title, labels, first in (
-            ("Places of refusal 13", nostwier.quantity_labels(counts), 0), ("Rows of refusal 14", rows, 0),
-            ("Order of the charges", nostwier.charge_labels(counts), len(rows)),
+            ("Places of refusal 13", nostwier.quantity_labels(counts, version=page.version), 0), ("Rows of refusal 14", rows, 0),
+            ("Order of the charges", nostwier.charge_labels(counts, version=page.version), len(rows)),
         ):
             found = {}
             for formula, label, *_ in page.numbered(title):
@@ -438,7 +473,7 @@ def by_field(page, file, counts):
 
 def check_places(page):
     """Each quantity above its bound is refused at its place."""
-    _, _, case, certificate = roomy(SMALL)
+    _, _, case, certificate = page.pair(SMALL)
     fields = by_field(page, "Certificate", SMALL)
     for formula, label in page.numbered("Places of refusal 13"):
         for numbers in repeats(label, SMALL):
@@ -483,7 +518,7 @@ def break_row(case, certificate, what, numbers):
 
 def check_rows(page):
     """Each row, broken alone, is refused with its number; its price stands where the page says and moves its charge."""
-    *objects, case, certificate = roomy(SMALL)
+    *objects, case, certificate = page.pair(SMALL)
     case_fields, fields = by_field(page, "Case", SMALL), page.entries("Certificate", SMALL)
     rows = page.size("rows", SMALL)
     before = nostwier.charges(case, certificate)[:rows]
@@ -534,7 +569,7 @@ def check_charges(page):
     yield "all of the labels", len(offers) == 8 and "resource r: on-line short-term s" in of
     seen = {label: set() for label in of}
     for off_line in range(SMALL.resources):
-        _, _, case, certificate = roomy(SMALL, off_line)
+        _, _, case, certificate = page.pair(SMALL, off_line)
         fields = by_field(page, "Certificate", SMALL)
         dear = certificate
         for path in ("row_prices.energy", *(f"row_prices.market.{name}" for name in CURVES)):
@@ -565,7 +600,7 @@ def check_charges(page):
 
 def check_prices(page):
     given = of_counts(SMALL)
-    _, _, case, certificate = roomy(SMALL)
+    _, _, case, certificate = page.pair(SMALL)
     case_fields, fields = by_field(page, "Case", SMALL), by_field(page, "Certificate", SMALL)
     of = {label: formula for formula, label in page.numbered("Order of the prices")}
     names = ["zone z: " + name.replace("_", "-") for name in nostwier.ZonePrices._fields]
@@ -608,7 +643,7 @@ def check_example(page, top):
 def check_bits(page, model):
     """Values of status bits and flags, on both pages."""
     for field, names in (("status", nostwier.Status), ("flags", nostwier.Flags)):
-        (meaning,) = [row[6] for row in page.table("Case: resource").rows if row[2] == f"`{field}`"]
+        (meaning,) = [meaning for _, _, name, *_, meaning in page.lines("Case: resource", FIELDS) if name == f"`{field}`"]
         said = {int(value): name for value, name in re.findall(r"(\d+) ([^,]+)", meaning)}
         wanted = {bit.value: bit.name.replace("_", " ") for bit in names}
         plain = {value: name.replace("non-zero ", "").replace("-", " ") for value, name in said.items()}
@@ -642,6 +677,56 @@ def check_model(page, model, top):
         yield f"{pair} in MODEL", tuple(nostwier.check_certificate(b, q)) == said
 
 
+def check_versions(text):
+    """What a table has by version, it has of each version that there is, once."""
+    for table in tables(text):
+        found = {}
+        for match in filter(None, map(OF_VERSION.fullmatch, table.head)):
+            found.setdefault(match[1], []).append(int(match[2]))
+        for name, versions in found.items():
+            yield f"{name} by version in the table below '{table.title}'", sorted(versions) == list(layout.FILE_VERSIONS)
+
+
+SAMPLE = """
+## Sizes
+
+| what | version 1 | version 2 |
+|---|---|---|
+| rows | `5 + R` | `7 + R` |
+| overruns | – | `F` |
+
+### Case: zone
+
+| offset, version 1 | offset, version 2 | type | field | unit | range | refused | meaning |
+|---|---|---|---|---|---|---|---|
+| `0` | `0` | u8 | `first` | | 0 to 255 | – | |
+| – | `1` | u8 | `second` | | 0 to 3 | 5 | |
+| `1` | `2` | u8 | `third` | | 0 to 3 | 5 | |
+"""
+
+
+def check_columns():
+    """How columns of versions are read, on a page with two."""
+    first, second, third = (Page(SAMPLE, version) for version in (1, 2, 3))
+    yield "sizes", (first.sizes(), second.sizes()) == ({"rows": "`5 + R`"}, {"rows": "`7 + R`", "overruns": "`F`"})
+    fields = [page.lines("Case: zone", ("offset", "field")) for page in (first, second)]
+    yield "fields", fields == [[["`0`", "`first`"], ["`1`", "`third`"]], [["`0`", "`first`"], ["`1`", "`second`"], ["`2`", "`third`"]]]
+    yield "a column of all versions", len(third.lines("Case: zone", ("type", "refused"))) == 3
+    for table, name in (("Sizes", ""), ("Case: zone", "offset")):
+        try:
+            third.column(third.table(table), name)
+            yield f"no column of version 3 in {table}", False
+        except Wrong:
+            yield f"no column of version 3 in {table}", True
+
+
+def by_version(check, text, *others):
+    """A check of the page for each version."""
+    for version in layout.FILE_VERSIONS:
+        for what, is_so in check(Page(text, version), *others):
+            yield f"version {version}: {what}", is_so
+
+
 FAULTS = (Wrong, Refused, ArithmeticError, LookupError, ValueError)  # to what a wrong page may lead
 CHECKS = {
     "sizes": check_sizes, "layout": check_layout, "names": check_names, "types": check_types, "ranges": check_ranges,
@@ -665,11 +750,11 @@ def run(checks):
 
 
 def all_checks(text, model, top):
-    page = Page(text)
     return {
-        **{name: functools.partial(check, page) for name, check in CHECKS.items()},
-        "example": lambda: check_example(page, top), "bits": lambda: check_bits(page, model),
-        "model": lambda: check_model(page, model, top),
+        "columns": check_columns, "versions": lambda: check_versions(text),
+        **{name: functools.partial(by_version, check, text) for name, check in CHECKS.items()},
+        "bits": lambda: by_version(check_bits, text, model),
+        "example": lambda: check_example(Page(text, 1), top), "model": lambda: check_model(Page(text, 1), model, top),
     }
 
 
@@ -698,36 +783,51 @@ def wrong_ranges(span):
         yield "0 to 64"
 
 
+def columns_of(table, name):
+    """The columns that have this, of all versions or of one each."""
+    return [at for at, head in enumerate(table.head)
+            if head == name or (match := OF_VERSION.fullmatch(head)) and (match[1] or "") == name]
+
+
+def wrong_numbers(table, cells, name, check, left_out):
+    """Wrong formulas in the columns that have this; and none, as if the version had no such line."""
+    for at in columns_of(table, name):
+        for formula in wrong_formulas(cells[at]) if cells[at] != "–" else ():
+            yield at, formula, check
+        yield at, "–" if cells[at] != "–" else "`0`", left_out
+
+
+def wrong_field(table, cells, following):
+    kind, field, span, refused = (table.head.index(name) for name in ("type", "field", "range", "refused"))
+    is_head = cells[field].strip("`") in HEADS
+    yield from wrong_numbers(table, cells, "offset", "layout", "layout")
+    if cells[field] != "`length`":
+        yield kind, OTHER_TYPE[cells[kind]], "layout" if is_head else "types"
+    if following:
+        yield field, following[field], "layout" if is_head else "names"
+    for wrong in wrong_ranges(cells[span]):
+        yield span, wrong, "ranges"
+    yield refused, "5" if cells[refused] == "–" else str(int(cells[refused]) + 1), "ranges"
+
+
 def wrong_cells(table, cells, following):
     """(the column, what to put there, the check that must notice)."""
-    title, head = table.title, table.head
+    title = table.title
     if re.match("Case: |Certificate: ", title):
-        is_head = cells[2].strip("`") in HEADS
-        for formula in wrong_formulas(cells[0]):
-            yield 0, formula, "layout"
-        if cells[2] != "`length`":
-            yield 1, OTHER_TYPE[cells[1]], "layout" if is_head else "types"
-        if following:
-            yield 2, following[2], "layout" if is_head else "names"
-        for span in wrong_ranges(cells[4]):
-            yield 4, span, "ranges"
-        yield 5, "5" if cells[5] == "–" else str(int(cells[5]) + 1), "ranges"
+        yield from wrong_field(table, cells, following)
     elif title in ("The case", "The certificate"):
-        for column in (1, 2):
-            for formula in wrong_formulas(cells[column]):
-                yield column, formula, "layout"
-    elif title == "Sizes" and head[0] == "what":
-        for formula in wrong_formulas(cells[1]):
-            yield 1, formula, "sizes"
+        for name in ("begins at", "bytes"):
+            yield from wrong_numbers(table, cells, name, "layout", "layout")
+    elif title == "Sizes":
+        yield from wrong_numbers(table, cells, "", "sizes", "sizes")
     else:
-        check = re.fullmatch("(?:Order of the )?(?:(places|rows) of refusal 1[34]|(charges|prices))", title, re.IGNORECASE)
-        check = (check[1] or check[2]).lower()
-        for formula in wrong_formulas(cells[0]):
-            yield 0, formula, check
-        if following:
-            yield 1, following[1], "prices" if check == "prices" else "words"
-        if following and check == "rows":
-            yield 2, following[2], "rows"
+        number, words, *price = NUMBERED[title]
+        check = {"place": "places", "row": "rows", "charge": "charges", "number": "prices"}[number]
+        in_words = "prices" if check == "prices" else "words"
+        yield from wrong_numbers(table, cells, number, check, in_words)
+        for name, noticed in [(words, in_words), *[(name, "rows") for name in price]] if following else ():
+            at = table.head.index(name)
+            yield at, following[at], noticed
 
 
 def wrong_model_cells(table, cells, following):
@@ -764,6 +864,10 @@ def wrong_pages(text):
         if match := re.match(r"put\(\w+, (?:zeros\(Int, )?(\d+)", line):
             changed = line[:match.start(1)] + str(int(match[1]) + 1) + line[match.end(1):]
             yield changed, "\n".join([*lines[:at], changed, *lines[at + 1:]]), "example"
+    after = layout.FILE_VERSIONS[-1] + 1
+    for head in {head for table in tables(text) for head in table.head if OF_VERSION.fullmatch(head)}:
+        changed = head.replace(OF_VERSION.fullmatch(head)[2], str(after))
+        yield f"{head}: {changed}", text.replace(f"| {head} |", f"| {changed} |"), "versions"
 
 
 def a_line(cells):

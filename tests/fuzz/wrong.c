@@ -57,7 +57,7 @@ uint32_t __wrap_nostwier_check_case(const uint8_t *c, size_t cn)
     if (fault("case:last-byte-unread"))
         seen[cn - 1] = 0;
     if (fault("case:one-flowgate-too-many-is-taken") && cn >= HEAD)
-        cn = one_flowgate_fewer(seen, cn, NOSTWIER_CASE_BYTES(c[5], c[6], c[7]), 4 + 2 * (size_t)c[5]);
+        cn = one_flowgate_fewer(seen, cn, NOSTWIER_CASE_BYTES(c[4], c[5], c[6], c[7]), 4 + 2 * (size_t)c[5]);
     return __real_nostwier_check_case(seen, cn);
 }
 
@@ -82,7 +82,7 @@ nostwier_answer __wrap_nostwier_charges(const uint8_t *c, size_t cn, const uint8
 {
     nostwier_answer answer = __real_nostwier_charges(c, cn, q, qn, out, n);
     if (fault("charges:none-for-the-last-resource") && answer.refusal == 0)
-        out[4 + 4 * c[6] + c[7] + 19 * c[5]] = 0;
+        out[NOSTWIER_ROWS(c[4], c[5], c[6], c[7]) + 14 * (size_t)c[5] - 1] = 0;
     return answer;
 }
 #endif
@@ -100,7 +100,7 @@ nostwier_count __wrap_nostwier_read_certificate(const uint8_t *file, size_t leng
 {
     static uint8_t seen[MOST];
     if (fault("read-certificate:one-flowgate-too-many-is-taken") && length >= 8 && length <= MOST) {
-        size_t end = NOSTWIER_CERTIFICATE_BYTES(0, file[6], file[7]);
+        size_t end = NOSTWIER_CERTIFICATE_BYTES(file[4], 0, file[6], file[7]);
         memcpy(seen, file, length);
         return __real_nostwier_read_certificate(seen, one_flowgate_fewer(seen, length, end, 4), out, n);
     }

@@ -20,7 +20,7 @@ import tempfile
 from pathlib import Path
 
 import nostwier
-from nostwier import Names, explain, library, messages, model
+from nostwier import Names, explain, layout, library, messages, model
 from nostwier.__main__ import COMMANDS
 
 TOP, REFERENCE, HOST, SIZES = (Path(word) for word in sys.argv[1:5])
@@ -182,15 +182,16 @@ def answers():
 def refusals():
     # 15 is never met through the module, which lends enough; the library itself says it, and writes nothing then.
     case, certificate = pairs["small"]
-    counts = library.Counts.of_file(case)
+    counts = nostwier.Counts.of_file(case)
+    sizes = counts.sizes(case[4])
     case_numbers, certificate_numbers = nostwier.read_case(case), nostwier.read_certificate(certificate)
     for name, lent, item, size in (
-        ("prices", (case, certificate), ctypes.c_int64, counts.prices), ("charges", (case, certificate), ctypes.c_int64, counts.charges),
-        ("read_case", (case,), ctypes.c_int64, counts.case_numbers),
-        ("read_certificate", (certificate,), ctypes.c_int64, counts.certificate_numbers),
-        ("write_case", ((ctypes.c_int64 * len(case_numbers))(*case_numbers),), ctypes.c_uint8, counts.case_bytes),
+        ("prices", (case, certificate), ctypes.c_int64, counts.prices), ("charges", (case, certificate), ctypes.c_int64, sizes.charges),
+        ("read_case", (case,), ctypes.c_int64, sizes.case_numbers),
+        ("read_certificate", (certificate,), ctypes.c_int64, sizes.certificate_numbers),
+        ("write_case", ((ctypes.c_int64 * len(case_numbers))(*case_numbers),), ctypes.c_uint8, sizes.case_bytes),
         ("write_certificate", ((ctypes.c_int64 * len(certificate_numbers))(*certificate_numbers),), ctypes.c_uint8,
-         counts.certificate_bytes),
+         sizes.certificate_bytes),
     ):
         words = [word for part in lent for word in (part, len(part))]
         for short, refusal in ((1, 15), (0, 0)):
@@ -262,11 +263,13 @@ def records():
         same(f"{name} by its record", read.to_bytes(), case)
         same(f"{name} by its dictionary", nostwier.Case.from_dict(read.to_dict()), read)
         same(f"{name} by JSON", nostwier.Case.from_json(read.to_json()).to_bytes(), case)
-        same(f"the counts of {name}", read.counts, library.Counts.of_file(case))
+        same(f"the counts of {name}", read.counts, nostwier.Counts.of_file(case))
+        same(f"the version of {name}", read.version, case[4])
         made = nostwier.Certificate.from_bytes(certificate)
         same(f"certificate {name} by its record", made.to_bytes(), certificate)
         same(f"certificate {name} by JSON", nostwier.Certificate.from_json(made.to_json()).to_bytes(), certificate)
-        same(f"the rows of {name}", len(made.prices_of_rows()), made.counts.rows)
+        same(f"the version of the certificate {name}", made.version, certificate[4])
+        same(f"the rows of {name}", len(made.prices_of_rows()), made.counts.sizes(made.version).rows)
 
     # The paper's worked interval from a dictionary, with everything left out that is 0.
     reserve = {"multiplier": 1000, "minutes": 10}
@@ -483,6 +486,9 @@ def ranges():
                  "or more, whichever way the solver counts: write it without the minus."))
 
 
+LABELS = nostwier.row_labels, nostwier.charge_labels, nostwier.quantity_labels
+
+
 def labels():
     # The C host lists the same charges in the same words.
     for name, (case, certificate) in accepted.items():
@@ -490,13 +496,14 @@ def labels():
         printed = subprocess.run([HOST, folder / f"{name}.case", folder / f"{name}.cert", "100000"], capture_output=True, check=True,
                                  text=True).stdout
         listing = printed[printed.index("charges above 0"):].splitlines()[1:]
-        counts = library.Counts.of_file(case)
-        listed = [c for c in nostwier.listed_charges(counts, nostwier.charges(case, certificate)) if c.grains > 0]
+        counts = nostwier.Counts.of_file(case)
+        listed = [c for c in nostwier.listed_charges(counts, nostwier.charges(case, certificate), version=case[4]) if c.grains > 0]
         same(f"the charges of {name} in words",
              [f"{c.grains:>22} grains  ${nostwier.dollars(c.grains, 9):f}  {c.label}" for c in listed], listing)
-        same(f"labels of {name}", [len(nostwier.row_labels(counts)), len(nostwier.charge_labels(counts)), len(nostwier.quantity_labels(counts))],
-             [counts.rows, counts.charges, 4 + 5 * counts.resources])
-    counts = library.Counts(2, 2, 1)
+        sizes = counts.sizes(case[4])
+        same(f"labels of {name}", [len(label(counts, version=case[4])) for label in LABELS],
+             [sizes.rows, sizes.charges, {1: 4 + 5 * counts.resources}[case[4]]])
+    counts = nostwier.Counts(2, 2, 1)
     rows = nostwier.row_labels(counts, Names(zones=["North", ""], resources=["", "Wind"], flowgates=["Tie"]))
     same("rows in words", [rows[number - 1] for number in (1, 2, 5, 6, 13, 14, 15, 24)], [
         "energy equals demand", "market-wide operating reserve", "market-wide short-term reserve", "zone 1 (North): operating reserve",
@@ -506,6 +513,127 @@ def labels():
         "row 1, energy equals demand", "resource 1: energy step 1", "resource 1: energy step 10", "resource 1: regulating g",
         "resource 1: off-line short-term o", "resource 2: energy step 1", "resource 2: off-line short-term o", "operating curve: step 1",
         "short-term curve: step 4"])
+
+
+def gone_through():
+    """What there is for each curve, or for each row of a resource, is gone through in their order, without a name."""
+    for made, values in ((nostwier.ByCurve(1, 2, 3, 4), [1, 2, 3, 4]), (nostwier.Zone(1, 2, 3, 4, "North"), [1, 2, 3, 4]),
+                         (nostwier.Curves([1], [2], [3], [4]), [[1], [2], [3], [4]]), (nostwier.ResourceRows(1, 2, 3, 4, 5), [1, 2, 3, 4, 5])):
+        same(f"what a {type(made).__name__} has", list(made), values)
+
+
+def versions():
+    """Sizes by version are the header's; of a version that is not known there is nothing."""
+
+    def printed(*words):
+        return [int(word) for word in subprocess.run([SIZES, *map(str, words)], capture_output=True, check=True).stdout.split()]
+
+    unknown = (-1, 0, layout.FILE_VERSIONS[-1] + 1, 255, 256, 257)
+    same("the versions are the header's", list(layout.FILE_VERSIONS), printed("versions"))
+    for counts in (layout.LEAST, nostwier.Counts(3, 2, 1), nostwier.Counts(10, 8, 5), layout.MOST):
+        for version in (*layout.FILE_VERSIONS, *unknown):
+            *sizes, rows, charges = counts.sizes(version)
+            same(f"sizes of {counts} in version {version}", [*sizes, rows, counts.prices, charges], printed(version, *counts))
+        same(f"sizes of {counts} without a version",
+             [counts.case_bytes, counts.certificate_bytes, counts.case_numbers, counts.certificate_numbers, counts.rows, counts.prices,
+              counts.charges], printed(1, *counts))
+        for version in unknown:
+            same(f"labels of version {version}", [label(counts, version=version) for label in LABELS], [[], [], []])
+    *sizes, rows, charges = layout.LARGEST
+    same("the sizes of the largest case", [*sizes, rows, layout.MOST.prices, charges], printed("most"))
+    same("versions that were met", sorted({file[4] for pair in accepted.values() for file in pair}), list(layout.FILE_VERSIONS))
+
+
+def unknown_versions():
+    """A file of a version that is not known is refused by the library, and a record of one is not written."""
+    case, certificate = pairs["small"]
+    for version in (0, layout.FILE_VERSIONS[-1] + 1, 255):
+        other_case, other_certificate = (file[:4] + bytes([version]) + file[5:] for file in (case, certificate))
+        where = f"its version is {version}"
+        for number, call, *files in (
+            (2, nostwier.check_case, other_case), (2, nostwier.read_case, other_case), (2, nostwier.Case.from_bytes, other_case),
+            (2, nostwier.check_certificate, other_case, other_certificate), (9, nostwier.check_certificate, case, other_certificate),
+            (9, nostwier.charges, case, other_certificate), (9, nostwier.read_certificate, other_certificate),
+            (9, nostwier.Certificate.from_bytes, other_certificate),
+        ):
+            same(f"{call.__qualname__} in version {version}", refusal_of(call, *files), (number, 0, where))
+        swapped = raised(nostwier.Refused, nostwier.check_certificate, other_certificate, other_case)
+        check(f"files of version {version} swapped", "Are the files swapped?" in str(swapped))
+        for number, record, file, other in ((2, nostwier.Case, case, other_case), (9, nostwier.Certificate, certificate, other_certificate)):
+            read = record.from_bytes(file)
+            check(f"{record.__name__} of version {version} unjudged", raised(ValueError, record.unjudged, other))
+            check(f"the version is no field of a {record.__name__}'s source", "version" not in read.to_dict())
+            read.version = version
+            same(f"{record.__name__} written in version {version}", refusal_of(read.to_bytes), (number, 0, where))
+
+
+# Versions 2 and 3 as they might be: lines of the module, and what stands in their place. A curve, a flag byte and a quantity are
+# new with version 2, and version 3 has no emergency minimum.
+LATER = (
+    ("layout.py", "FILE_VERSIONS: Tuple[int, ...] = (1,)", "FILE_VERSIONS: Tuple[int, ...] = (1, 2, 3)"),
+    ("layout.py", '    Listed("short_term", "short-term"),\n', '    Listed("short_term", "short-term"),\n    Listed("up", "up", (2, 3)),\n'),
+    ("layout.py", "ZONE_REQUIREMENTS = CURVES ", "ZONE_REQUIREMENTS = CURVES[:4] "),
+    ("layout.py", '    Listed("o", "off-line short-term o"),\n', '    Listed("o", "off-line short-term o"),\n    Listed("u", "up u", (2, 3)),\n'),
+    ("layout.py", '        Entry("ramp_up",', '        Entry("second_flags", "B", 0, 3, "", (2, 3)),\n        Entry("ramp_up",'),
+    ("layout.py", '        Entry("emergency.minimum", "I", 0, POWER, KW),', '        Entry("emergency.minimum", "I", 0, POWER, KW, (1, 2)),'),
+    ("records.py", '    """The four demand curves."""\n\n', '    up: List[Step] = _field(STEPS_OF_CURVE, list)\n'),
+    ("records.py", '    """Quantities in kW, or prices in thousandths of a cent."""\n\n', '    up: int = _field(WHOLE, 0)\n'),
+    ("records.py", "    self_schedule: int = _field(WHOLE, 0)\n", "    self_schedule: int = _field(WHOLE, 0)\n    second_flags: int = _field(WHOLE, 0)\n"),
+    ("records.py", "    o: int = _field(WHOLE, 0)\n", "    o: int = _field(WHOLE, 0)\n    u: int = _field(WHOLE, 0)\n"),
+)
+LATER_FILES = """
+import struct, sys
+from nostwier import Case, Certificate, Step, charge_labels, layout, row_labels
+for version in (1, 2, 3):
+    for record, path in ((Case, sys.argv[1]), (Certificate, sys.argv[2])):
+        filed = record.unjudged(open(path, "rb").read())
+        filed.version = version
+        if record is Case:
+            filed.curves.up = [Step(7, 5)] if version > 1 else []
+        else:
+            filed.cleared.up, filed.row_prices.market.up = (6, 4) if version > 1 else (0, 0)
+        for resource in filed.resources:
+            if record is Case:
+                resource.second_flags = 3 if version > 1 else 0
+                resource.emergency.minimum = 5 if version < 3 else 0
+            else:
+                resource.u = 77 if version > 1 else 0
+        sizes, before = filed.counts.sizes(version), filed.counts.sizes(1)
+        size, letters = getattr(sizes, record.FILE + "_bytes"), layout.letters(record.FILE, filed.counts, version)
+        file = struct.pack(">IB" + letters, size - 4, version, *filed.numbers())
+        names = [place.where[13:] for place in layout.places(record.FILE, filed.counts, version) if place.where.startswith("resources[1].")]
+        print(version, record.FILE, *[now - then for now, then in zip(sizes, before)], *names[5 if record is Certificate else 11:][:3])
+        assert size == len(file) and record.unjudged(file) == filed and not list(filed.misfits())
+        assert getattr(sizes, record.FILE + "_numbers") == len(letters) == len(filed.numbers())
+    labels = row_labels(filed.counts, version=version)
+    assert (len(labels), len(filed.prices_of_rows())) == (sizes.rows, sizes.rows)
+    assert (labels[5:6] == ["market-wide up reserve"]) == (filed.prices_of_rows()[5:6] == [4]) == (version > 1)
+    assert len(charge_labels(filed.counts, version=version)) == sizes.charges
+assert layout.LARGEST == tuple(max(layout.MOST.sizes(version)[which] for version in (1, 2, 3)) for which in range(len(sizes)))
+"""
+
+
+def later_versions():
+    """A curve, field or quantity that some versions alone have is a line of a table and a field of the record, and no more."""
+    with tempfile.TemporaryDirectory() as folder:
+        subprocess.run(["cp", "-r", Path(layout.__file__).parent, folder], check=True)
+        for file, old, new in LATER:
+            path = Path(folder) / "nostwier" / file
+            text = path.read_text(encoding="utf-8")
+            same(f"the line of {file}: {old.strip()}", text.count(old), 1)
+            path.write_text(text.replace(old, new), encoding="utf-8")
+        done = subprocess.run([sys.executable, "-c", LATER_FILES, EXAMPLE / "small.case", EXAMPLE / "small.cert"], capture_output=True,
+                              text=True, check=False, env={**os.environ, "PYTHONPATH": folder})
+    r = nostwier.Counts.of_file(pairs["small"][0]).resources
+    wanted = []
+    for version, sizes, in_case, in_certificate in (
+        (1, (0, 0, 0, 0, 0, 0), "emergency.minimum emergency.maximum ramp_up", "row_prices.within_max row_prices.short_term_within_max row_prices.above_min"),
+        (2, (32 + r, 8 + 4 * r, 8 + r, 2 + r, 1, 5 + r), "emergency.minimum emergency.maximum second_flags", "u row_prices.within_max row_prices.short_term_within_max"),
+        (3, (32 - 3 * r, 8 + 4 * r, 8, 2 + r, 1, 5 + r), "emergency.maximum second_flags ramp_up", "u row_prices.within_max row_prices.short_term_within_max"),
+    ):
+        for file, names in (("case", in_case), ("certificate", in_certificate)):
+            wanted.append(" ".join(map(str, (version, file, *sizes, names))))
+    same("files of later versions", (done.stdout.splitlines(), done.stderr), (wanted, ""))
 
 
 def units():
@@ -800,6 +928,17 @@ def commands():
         check("no question of the example", "question" not in explain(*pairs["small"]))
 
 
+def questions():
+    """Other prices, which a question is tried with, are those of every row but of flowgates; the rest stays."""
+    before = nostwier.Certificate.from_bytes(pairs["small"][1])
+    after = sys.modules["nostwier.explain"]._with_prices(before, lambda price: price + 1, 7)
+    first = 1 + 4 + 4 * before.counts.zones
+    prices = [7] + [price + 1 for price in before.prices_of_rows()[1:]]
+    prices[first:first + before.counts.flowgates] = before.row_prices.flowgates
+    same("prices for a question", (after.prices_of_rows(), after.cleared, [d.e for d in after.resources], after.version),
+         (prices, before.cleared, [d.e for d in before.resources], before.version))
+
+
 def models():
     """The model that serves messages, against the library: states, bounds, rows, and what is behind each charge."""
     with tempfile.TemporaryDirectory() as folder:
@@ -1077,7 +1216,8 @@ def finding():
 
 answers()
 if not ANSWERS_ALONE:
-    for part in (refusals, records, order, ranges, labels, units, models, package, commands, finding):
+    for part in (refusals, records, order, ranges, labels, gone_through, versions, unknown_versions, later_versions, units, models,
+                 package, commands, questions, finding):
         part()
 print(f"{passed} passed, {failed} failed")
 sys.exit(0 if passed and not failed else 1)

@@ -13,7 +13,7 @@ use crate::case::Case;
 use crate::certificate::{accept, Certificate};
 use crate::generate::Pair;
 use crate::operations::Totals;
-use crate::standing::standings;
+use crate::standing::{standings, Product};
 use programme::Programme;
 use solver::{Call, Solution, Unsolved};
 
@@ -96,7 +96,9 @@ fn why_none(case: &Case) -> String {
     let online: Vec<_> = standings.iter().filter(|standing| standing.is_online()).collect();
     let most: i64 = online
         .iter()
-        .map(|standing| standing.maximum.min(standing.high).min(standing.bounds[0]).max(0))
+        .map(|standing| {
+            standing.maximum.min(standing.high).min(standing.bound(Product::Energy)).max(0)
+        })
         .sum();
     let least: i64 = online.iter().map(|standing| standing.minimum.max(standing.low)).sum();
     let off: Vec<String> = (1..)
@@ -139,7 +141,8 @@ fn better_prices(
 
 /// The certificate of a schedule and prices, as the check judges it.
 fn judged(case: &Case, amounts: &[i64], row_prices: Vec<i64>) -> Result<Solved, Unsolved> {
-    let certificate = Certificate { counts: case.counts, amounts: amounts.to_vec(), row_prices };
+    let Case { version, counts, .. } = *case;
+    let certificate = Certificate { version, counts, amounts: amounts.to_vec(), row_prices };
     let pair = Pair { case: case.clone(), certificate };
     let accepted = accept(&pair.case_file(), &pair.certificate_file())
         .map_err(|refusal| format!("the certificate would be refused: {refusal}"))

@@ -6,10 +6,9 @@
 use crate::accounts::{listed, Listed};
 use crate::case::Case;
 use crate::certificate::upper_bounds;
-use crate::rows::{rows, Row};
+use crate::rows::{rows, Row, RowName};
 use crate::standing::standings;
 use crate::units::Kw;
-use std::ops::Range;
 
 const HIGHEST_ROW_PRICE: i64 = 400_000_000;
 const HIGHEST_FLOWGATE_PRICE: i64 = 400_000;
@@ -20,7 +19,6 @@ pub struct Programme {
     pub rows: Vec<Row>,
     /// Upper bounds of the quantities, in the order of places.
     pub bounds: Vec<Kw>,
-    flowgate_rows: Range<usize>,
     /// Whether a row may be missed at the highest price it can have. No dual
     /// then leaves the range of the certificate's prices.
     pub priced: bool,
@@ -29,19 +27,22 @@ pub struct Programme {
 impl Programme {
     pub fn of_case(case: &Case) -> Programme {
         let standings = standings(case);
-        let first = 5 + 4 * case.counts.zones;
         Programme {
             columns: listed(case, &standings),
             rows: rows(case, &standings),
             bounds: upper_bounds(case, &standings),
-            flowgate_rows: first..first + case.counts.flowgates,
             priced: false,
         }
     }
 
+    /// Whether a row, counted from 0, is a flowgate.
+    pub fn is_flowgate(&self, row: usize) -> bool {
+        matches!(self.rows[row].name, RowName::Flowgate(_))
+    }
+
     /// Which rows, counted from 0, are flowgates.
-    pub fn flowgate_rows(&self) -> Range<usize> {
-        self.flowgate_rows.clone()
+    pub fn flowgate_rows(&self) -> impl Iterator<Item = usize> + '_ {
+        (0..self.rows.len()).filter(|row| self.is_flowgate(*row))
     }
 
     pub fn coefficient(&self, row: usize, column: usize) -> i64 {
@@ -63,10 +64,10 @@ impl Programme {
 
     /// The range of a row's price in the certificate.
     pub fn price_range(&self, row: usize) -> (i64, i64) {
-        match row {
-            0 => (-HIGHEST_ROW_PRICE, HIGHEST_ROW_PRICE),
-            _ if self.flowgate_rows.contains(&row) => (0, HIGHEST_FLOWGATE_PRICE),
-            _ => (0, HIGHEST_ROW_PRICE),
+        match self.rows[row].name {
+            RowName::Demand => (-HIGHEST_ROW_PRICE, HIGHEST_ROW_PRICE),
+            RowName::Flowgate(_) => (0, HIGHEST_FLOWGATE_PRICE),
+            RowName::Market(_) | RowName::Zone(..) | RowName::Of(..) => (0, HIGHEST_ROW_PRICE),
         }
     }
 

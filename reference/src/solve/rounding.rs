@@ -1,7 +1,8 @@
 //! Whole kW near a solver's solution that keep every row.
 
-use crate::case::{Case, Curve};
+use crate::case::Case;
 use crate::random::Random;
+use crate::rows::{index_of_cleared, RowName};
 use crate::solve::programme::Programme;
 use crate::units::Kw;
 
@@ -50,7 +51,7 @@ impl Search<'_> {
     /// kW, but for flowgates, which count thousandths already.
     fn shortfall(&self, row: usize, slack: i64) -> i64 {
         let short = if self.programme.rows[row].equation { slack.abs() } else { (-slack).max(0) };
-        if self.programme.flowgate_rows().contains(&row) {
+        if self.programme.is_flowgate(row) {
             short
         } else {
             1000 * short
@@ -150,10 +151,12 @@ pub fn repaired(programme: &Programme, amounts: Vec<Kw>) -> Result<Vec<Kw>, Stri
 
 /// Clears on each curve as much as the reserves bear; that never costs more.
 pub fn cleared_to_the_full(case: &Case, programme: &Programme, mut amounts: Vec<Kw>) -> Vec<Kw> {
-    for curve in Curve::ALL {
-        let index = curve as usize;
-        let spare = programme.rows[1 + index].slack(&amounts) as Kw;
-        amounts[index] = (amounts[index] + spare).min(case.curve_width(curve));
+    for row in &programme.rows {
+        if let RowName::Market(curve) = row.name {
+            let spare = row.slack(&amounts) as Kw;
+            let cleared = &mut amounts[index_of_cleared(case.version, curve)];
+            *cleared = (*cleared + spare).min(case.curve_width(curve));
+        }
     }
     amounts
 }

@@ -8,7 +8,8 @@ use crate::damage::{
     steps_against_their_rule,
 };
 use crate::generate::{varied_pair, Pair};
-use crate::layout::{self, Counts, MOST_FLOWGATES, MOST_RESOURCES, MOST_ZONES};
+use crate::layout::{self, Counts, FieldsOf, Version, MOST_FLOWGATES, MOST_RESOURCES, MOST_ZONES};
+use crate::operations::WRITTEN;
 use crate::random::Random;
 
 /// The damage that needs the meaning of a case. It leaves the size of both
@@ -122,6 +123,7 @@ impl Source {
 
 /// The first two pairs of a group are of the greatest and of the least size.
 fn base(random: &mut Random, group: &Group, index: usize) -> Base {
+    let version = random.pick(&Version::ALL);
     let counts = match index {
         0 => group.most,
         1 => Counts { resources: 1, zones: 1, flowgates: 0 },
@@ -131,7 +133,7 @@ fn base(random: &mut Random, group: &Group, index: usize) -> Base {
             flowgates: random.edgy(0, group.most.flowgates as i64) as usize,
         },
     };
-    let pair = varied_pair(random, counts);
+    let pair = varied_pair(random, version, counts);
     let mut damaged = Vec::new();
     for kind in KINDS {
         let mut list = kind(&pair);
@@ -148,8 +150,8 @@ fn base(random: &mut Random, group: &Group, index: usize) -> Base {
         }
     }
     Base {
-        case_shape: Shape::new(counts, layout::case_fields),
-        certificate_shape: Shape::new(counts, layout::certificate_fields),
+        case_shape: Shape::new(version, counts, layout::case_fields),
+        certificate_shape: Shape::new(version, counts, layout::certificate_fields),
         sound: Files { case: pair.case_file(), certificate: pair.certificate_file() },
         damaged,
     }
@@ -268,26 +270,33 @@ fn counts_of(file: &[u8]) -> Option<Counts> {
     Counts::of_any_flowgates(resources, zones, flowgates)
 }
 
+/// The version of a file. An unknown one is taken for the newest, so that such a
+/// file has a buffer with room as well, and numbers.
+fn version_of(file: &[u8]) -> Version {
+    layout::announced_version(file).unwrap_or(Version::NEWEST)
+}
+
 fn prices_of(case: &[u8]) -> usize {
     counts_of(case).map_or(0, Counts::price_count)
 }
 
 fn charges_of(case: &[u8]) -> usize {
-    counts_of(case).map_or(0, Counts::charge_count)
+    counts_of(case).map_or(0, |counts| counts.charge_count(version_of(case)))
 }
 
-fn numbers_of(file: &[u8], fields: fn(Counts) -> Vec<layout::Field>) -> usize {
-    counts_of(file).map_or(0, |counts| 3 + fields(counts).len()).min(MOST_NUMBERS)
+fn numbers_of(file: &[u8], fields: FieldsOf) -> usize {
+    let version = version_of(file);
+    counts_of(file).map_or(0, |counts| 3 + fields(version, counts).len()).min(MOST_NUMBERS)
 }
 
-fn bytes_of(numbers: &[i64], fields: fn(Counts) -> Vec<layout::Field>) -> usize {
+fn bytes_of(numbers: &[i64], fields: FieldsOf) -> usize {
     let counts = match numbers {
         [resources, zones, flowgates, ..] => {
             Counts::of_any_flowgates(*resources, *zones, *flowgates)
         }
         _ => None,
     };
-    counts.map_or(0, |counts| layout::file_size(&fields(counts)))
+    counts.map_or(0, |counts| layout::file_size(&fields(WRITTEN, counts)))
 }
 
 /// The calls of an operation with one pair of files, as they stand. Where a
@@ -335,8 +344,8 @@ fn rooms(needed: usize) -> [usize; 3] {
     [needed.saturating_sub(1), needed, needed + 7]
 }
 
-fn numbers_in(file: &[u8], fields: fn(Counts) -> Vec<layout::Field>) -> Option<Vec<i64>> {
-    let shape = Shape::new(counts_of(file)?, fields);
+fn numbers_in(file: &[u8], fields: FieldsOf) -> Option<Vec<i64>> {
+    let shape = Shape::new(version_of(file), counts_of(file)?, fields);
     let is_whole = file.len() == layout::file_size(&shape.fields);
     (is_whole && numbers_of(file, fields) < MOST_NUMBERS).then(|| shape.numbers(file))
 }

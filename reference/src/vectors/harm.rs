@@ -3,7 +3,7 @@
 
 use crate::damage::{random_bytes, TOO_MANY_FLOWGATES};
 use crate::layout::{
-    self, Counts, Field, HEAD, MOST_FLOWGATES, MOST_RESOURCES, MOST_ZONES, VERSION,
+    self, Counts, Field, FieldsOf, Version, HEAD, MOST_FLOWGATES, MOST_RESOURCES, MOST_ZONES,
 };
 use crate::random::Random;
 
@@ -17,22 +17,23 @@ pub const MOST_NUMBERS: usize = 8_000;
 /// The fields of a file after its counts, and where each begins.
 #[derive(Clone, Debug)]
 pub struct Shape {
+    pub version: Version,
     pub counts: Counts,
     pub fields: Vec<Field>,
     places: Vec<usize>,
-    of: fn(Counts) -> Vec<Field>,
+    of: FieldsOf,
 }
 
 impl Shape {
-    pub fn new(counts: Counts, of: fn(Counts) -> Vec<Field>) -> Shape {
-        let fields = of(counts);
+    pub fn new(version: Version, counts: Counts, of: FieldsOf) -> Shape {
+        let fields = of(version, counts);
         let mut places = Vec::with_capacity(fields.len());
         let mut place = HEAD;
         for field in &fields {
             places.push(place);
             place += field.width.size();
         }
-        Shape { counts, fields, places, of }
+        Shape { version, counts, fields, places, of }
     }
 
     /// Counts and fields of a file as numbers, whatever their values.
@@ -42,9 +43,14 @@ impl Shape {
         [&counts[..], &layout::read_fields(file, &self.fields)].concat()
     }
 
+    /// The shape of a file of the same version with other counts.
+    fn of_counts(&self, counts: Counts) -> Shape {
+        Shape::new(self.version, counts, self.of)
+    }
+
     /// The shape of a file with another number of flowgates.
     pub fn of_flowgates(&self, flowgates: usize) -> Shape {
-        Shape::new(Counts { flowgates, ..self.counts }, self.of)
+        self.of_counts(Counts { flowgates, ..self.counts })
     }
 
     /// A file of this shape laid out with the flowgates of another, its fields
@@ -52,7 +58,7 @@ impl Shape {
     pub fn lay_out(&self, wanted: &Shape, file: &[u8]) -> Vec<u8> {
         let numbers = layout::read_fields(file, &self.fields);
         let numbers = layout::with_flowgates(&self.fields, &numbers, &wanted.fields);
-        layout::write_fields(wanted.counts, &numbers, &wanted.fields)
+        layout::write_fields(wanted.version, wanted.counts, &numbers, &wanted.fields)
     }
 
     /// Sets one field of a file, unless the file ends before it.
@@ -65,13 +71,11 @@ impl Shape {
     }
 
     /// New prices within their ranges: any will do, so an accepted certificate
-    /// stays accepted. A quantity's field takes all that fits it; a price's
-    /// does not.
+    /// stays accepted.
     pub fn set_prices(&self, random: &mut Random, certificate: &mut [u8]) {
         let chance = random.pick(&[10, 50, 100]);
         for (index, field) in self.fields.iter().enumerate() {
-            let is_price = (field.least, field.most) != field.width.ends();
-            if is_price && random.percent(chance) {
+            if !field.quantity && random.percent(chance) {
                 let price = random.edgy(field.least, field.most);
                 self.set(certificate, index, price);
             }
@@ -103,7 +107,7 @@ pub fn harm_file(random: &mut Random, shape: &Shape, file: &mut Vec<u8>) {
         57..=63 => cut(random, file),
         64..=67 => announce_another_length(random, file),
         68..=72 => lengthen(random, file),
-        73..=76 => set_byte(file, 4, random.pick(&[0, 2, 3, 129, 255])),
+        73..=76 => set_byte(file, 4, unknown_version(random)),
         77..=85 => harm_count(random, file),
         86..=92 => take_telling_flowgates(random, shape, file),
         93..=95 => take_another_shape(random, shape, file),
@@ -111,6 +115,11 @@ pub fn harm_file(random: &mut Random, shape: &Shape, file: &mut Vec<u8>) {
         98 => *file = random_file(random, shape),
         _ => file.clear(),
     }
+}
+
+fn unknown_version(random: &mut Random) -> u8 {
+    let next = Version::NEWEST.byte() + 1;
+    random.pick(&[0, next, next + 1, 129, 255])
 }
 
 /// Sets one field to a telling number. If its bytes cannot hold that, it is set
@@ -247,20 +256,20 @@ fn put_counts(file: &mut [u8], counts: Counts) {
 
 /// Other counts, and the size that they need.
 fn take_another_shape(random: &mut Random, shape: &Shape, file: &mut Vec<u8>) {
-    let counts = any_counts(random);
-    file.resize(layout::file_size(&(shape.of)(counts)), 0);
-    put_counts(file, counts);
+    let other = shape.of_counts(any_counts(random));
+    file.resize(layout::file_size(&other.fields), 0);
+    put_counts(file, other.counts);
     announce(file, 0);
 }
 
 /// A file whose head and size are right and whose fields are random bytes.
 fn random_file(random: &mut Random, shape: &Shape) -> Vec<u8> {
-    let counts = any_counts(random);
-    let size = layout::file_size(&(shape.of)(counts));
+    let other = shape.of_counts(any_counts(random));
+    let size = layout::file_size(&other.fields);
     let mut file: Vec<u8> = (0..size).map(|_| random.bits() as u8).collect();
     announce(&mut file, 0);
-    set_byte(&mut file, 4, VERSION);
-    put_counts(&mut file, counts);
+    set_byte(&mut file, 4, other.version.byte());
+    put_counts(&mut file, other.counts);
     file
 }
 
@@ -283,9 +292,9 @@ pub fn harm_numbers(random: &mut Random, shape: &Shape, numbers: &mut Vec<i64>) 
         79..=88 => harm_count_number(random, numbers),
         89..=95 => list_telling_flowgates(random, shape, numbers),
         96..=98 => {
-            let counts = any_counts(random);
-            numbers.resize(3 + (shape.of)(counts).len(), 0);
-            put_count_numbers(numbers, counts);
+            let other = shape.of_counts(any_counts(random));
+            numbers.resize(3 + other.fields.len(), 0);
+            put_count_numbers(numbers, other.counts);
         }
         _ => {
             let length = random.between(0, 200);

@@ -3,7 +3,7 @@
 use nostwier_reference::certificate::Certificate;
 use nostwier_reference::enumerate::cheapest;
 use nostwier_reference::generate::{pair_of_scale, Pair, Scale};
-use nostwier_reference::layout::Counts;
+use nostwier_reference::layout::{Counts, Version};
 use nostwier_reference::program::whole_text;
 use nostwier_reference::random::Random;
 use nostwier_reference::solve::programme::Programme;
@@ -75,7 +75,7 @@ fn common_case(random: &mut Random, resources: i64, flowgates: i64) -> Pair {
         zones: random.between(1, 8) as usize,
         flowgates: random.between(flowgates.min(1), flowgates) as usize,
     };
-    pair_of_scale(random, counts, Scale { edges: 5, ..Scale::COMMON })
+    pair_of_scale(random, Version::ONE, counts, Scale { edges: 5, ..Scale::COMMON })
 }
 
 /// Without flowgates the duals are whole and no gap is left.
@@ -118,7 +118,7 @@ pub fn does_better_than_clipped_duals(solver: Solver) {
         let flowgates = 3 * (index % 2);
         let counts = Counts { resources: 12, zones: 2, flowgates };
         let scale = if flowgates > 0 { Scale::COMMON } else { Scale::FULL };
-        let pair = pair_of_scale(&mut random, counts, Scale { edges: 5, ..scale });
+        let pair = pair_of_scale(&mut random, Version::ONE, counts, Scale { edges: 5, ..scale });
         let solved = solve(&pair.case, &call).expect("a feasible case");
         let programme = Programme::of_case(&pair.case);
         let duals = call.linear(&programme, "plain").expect("a feasible case").duals;
@@ -149,7 +149,7 @@ pub fn agrees_with_enumeration(solver: Solver) {
             zones: random.between(1, 2) as usize,
             flowgates: random.between(0, 2) as usize,
         };
-        let pair = pair_of_scale(&mut random, counts, Scale::TINY);
+        let pair = pair_of_scale(&mut random, Version::ONE, counts, Scale::TINY);
         let Some((least, feasible)) = cheapest(&pair.case, 150_000) else {
             continue;
         };

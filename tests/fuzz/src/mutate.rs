@@ -6,7 +6,8 @@ use crate::trial::{Outcome, Trial};
 use nostwier_reference::certificate::accept;
 use nostwier_reference::damage::some_damage;
 use nostwier_reference::generate::Pair;
-use nostwier_reference::layout::{self, Counts, Field};
+use nostwier_reference::layout::{self, Counts, FieldsOf, Version};
+use nostwier_reference::operations::WRITTEN;
 use nostwier_reference::random::Random;
 use nostwier_reference::vectors::harm::{harm_file, harm_numbers, Shape};
 use nostwier_reference::vectors::{corpus_calls, Call, Files, Operation, Source};
@@ -67,13 +68,13 @@ impl Mutator {
             return Trial::of_call(self.source.call(operation));
         }
         let mut call = calls.swap_remove(self.random.index(calls.len()));
-        let fields = match call {
+        let fields: FieldsOf = match call {
             Call::WriteCase { .. } => layout::case_fields,
             _ => layout::certificate_fields,
         };
         if let Call::WriteCase { numbers, .. } | Call::WriteCertificate { numbers, .. } = &mut call
         {
-            if let Some(shape) = counts_of(numbers).map(|counts| Shape::new(counts, fields)) {
+            if let Some(shape) = counts_of(numbers).map(|counts| Shape::new(WRITTEN, counts, fields)) {
                 for _ in 0..self.random.between(0, 3) {
                     harm_numbers(&mut self.random, &shape, numbers);
                 }
@@ -97,13 +98,12 @@ impl Mutator {
         let counts = layout::announced_counts(&files.case).filter(|counts| counts.resources <= 8);
         match random.between(0, 19) {
             0..=11 => {
-                let (file, fields): (_, fn(Counts) -> Vec<Field>) = if random.percent(50) {
+                let (file, fields): (_, FieldsOf) = if random.percent(50) {
                     (&mut files.case, layout::case_fields)
                 } else {
                     (&mut files.certificate, layout::certificate_fields)
                 };
-                let Some(shape) = layout::announced_counts(file).map(|it| Shape::new(it, fields))
-                else {
+                let Some(shape) = shape_of(file, fields) else {
                     return;
                 };
                 if random.percent(75) {
@@ -113,8 +113,7 @@ impl Mutator {
                 }
             }
             12..=14 => {
-                if let Some(counts) = layout::announced_counts(&files.certificate) {
-                    let shape = Shape::new(counts, layout::certificate_fields);
+                if let Some(shape) = shape_of(&files.certificate, layout::certificate_fields) {
                     shape.set_prices(random, &mut files.certificate);
                 }
             }
@@ -133,6 +132,12 @@ impl Mutator {
             _ => {}
         }
     }
+}
+
+/// The shape that a file announces; an unknown version is taken for the newest.
+fn shape_of(file: &[u8], fields: FieldsOf) -> Option<Shape> {
+    let version = layout::announced_version(file).unwrap_or(Version::NEWEST);
+    layout::announced_counts(file).map(|counts| Shape::new(version, counts, fields))
 }
 
 fn counts_of(numbers: &[i64]) -> Option<Counts> {

@@ -3,7 +3,8 @@
 
 use crate::subject::Subject;
 use crate::trial::{Trial, What};
-use nostwier_reference::layout::{self, Counts, Field, VERSION};
+use nostwier_reference::layout::{self, Counts, Field, Version};
+use nostwier_reference::operations::WRITTEN;
 use nostwier_reference::vectors::Operation;
 use std::time::{Duration, Instant};
 
@@ -73,6 +74,7 @@ fn size_of(trial: &Trial) -> (usize, u64, u64) {
 /// A file or a writer's list as numbers, the counts left out.
 #[derive(Clone)]
 struct Figures {
+    version: Version,
     counts: Counts,
     numbers: Vec<i64>,
     is_case: bool,
@@ -85,19 +87,19 @@ const CERTIFICATE: (usize, usize) = (9, 10);
 impl Figures {
     fn fields(&self) -> Vec<Field> {
         if self.is_case {
-            layout::case_fields(self.counts)
+            layout::case_fields(self.version, self.counts)
         } else {
-            layout::certificate_fields(self.counts)
+            layout::certificate_fields(self.version, self.counts)
         }
     }
 
     /// None unless the file has version and size of its counts.
     fn of_file(file: &[u8], is_case: bool) -> Option<Figures> {
+        let version = layout::announced_version(file)?;
         let counts = layout::announced_counts(file)?;
-        let mut figures = Figures { counts, numbers: Vec::new(), is_case };
+        let mut figures = Figures { version, counts, numbers: Vec::new(), is_case };
         let fields = figures.fields();
         let sound = layout::length_is_right(file)
-            && layout::announced_version(file) == Some(VERSION)
             && file.len() == layout::file_size(&fields);
         figures.numbers = if sound { layout::read_fields(file, &fields) } else { return None };
         Some(figures)
@@ -108,12 +110,12 @@ impl Figures {
             return None;
         };
         let counts = Counts::within_range(*resources, *zones, *flowgates)?;
-        let figures = Figures { counts, numbers: numbers.to_vec(), is_case };
+        let figures = Figures { version: WRITTEN, counts, numbers: numbers.to_vec(), is_case };
         (figures.fields().len() == numbers.len()).then_some(figures)
     }
 
     fn file(&self) -> Vec<u8> {
-        layout::write_fields(self.counts, &self.numbers, &self.fields())
+        layout::write_fields(self.version, self.counts, &self.numbers, &self.fields())
     }
 
     fn list(&self) -> Vec<i64> {
@@ -216,7 +218,7 @@ fn needed(trial: &Trial) -> usize {
     };
     match trial.what {
         What::Call(Operation::Prices) => figures.counts.price_count(),
-        What::Call(Operation::Charges) => figures.counts.charge_count(),
+        What::Call(Operation::Charges) => figures.counts.charge_count(figures.version),
         What::Call(Operation::ReadCase | Operation::ReadCertificate) => 3 + figures.numbers.len(),
         What::Call(Operation::WriteCase | Operation::WriteCertificate) => figures.file().len(),
         _ => 0,
