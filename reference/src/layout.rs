@@ -140,7 +140,7 @@ pub struct Field {
     pub part: Part,
     /// The zone, resource or flowgate it belongs to, from 1; 0 if to none.
     pub of: usize,
-    /// Which of its name it is there, from 0: of steps and shift factors.
+    /// Which it is of those of its name there, from 0: steps and shift factors.
     pub index: usize,
     pub width: Width,
     pub least: i64,
