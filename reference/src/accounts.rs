@@ -2,6 +2,7 @@
 
 use crate::case::{Case, Curve, Resource, Step};
 use crate::certificate::Accepted;
+use crate::layout::{Counts, Version, CURVE_STEPS, ENERGY_STEPS};
 use crate::refusal::Failure;
 use crate::rows::{index_of, index_of_cleared, Row};
 use crate::standing::{Product, Standing};
@@ -48,6 +49,15 @@ pub fn listed(case: &Case, standings: &[Standing]) -> Vec<Listed> {
         }
     }
     list
+}
+
+impl Counts {
+    /// Rows and listed quantities.
+    pub fn charge_count(self, version: Version) -> usize {
+        let of_resource = ENERGY_STEPS + Product::beside_energy(version).count();
+        let curve_steps = CURVE_STEPS * Curve::of(version).count();
+        self.row_count(version) + of_resource * self.resources + curve_steps
+    }
 }
 
 /// What a resource asks for a product; its energy has a price a step.

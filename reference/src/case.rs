@@ -1,6 +1,6 @@
 //! A case: what one Dispatch Interval asks and what its resources offer.
 
-use crate::layout::{Counts, Span, Version, CURVES, CURVE_STEPS, ENERGY_STEPS, ZONE_CURVES};
+use crate::layout::{Counts, Version, CURVES, CURVE_STEPS, ENERGY_STEPS};
 use crate::units::{Cents, Kw};
 
 /// A step of an offer or of a demand curve.
@@ -43,22 +43,22 @@ impl Curve {
         [Curve::Operating, Curve::RegulatingPlusSpinning, Curve::Regulating, Curve::ShortTerm];
 
     /// Those that zones have requirements for, in every version.
-    pub const OF_ZONES: [Curve; ZONE_CURVES] =
+    pub const OF_ZONES: [Curve; 4] =
         [Curve::Operating, Curve::RegulatingPlusSpinning, Curve::Regulating, Curve::ShortTerm];
 
-    /// The versions that have it.
-    fn span(self) -> Span {
+    /// The first version that has it; all later ones do.
+    fn since(self) -> Version {
         match self {
             Curve::Operating
             | Curve::RegulatingPlusSpinning
             | Curve::Regulating
-            | Curve::ShortTerm => Span::ALWAYS,
+            | Curve::ShortTerm => Version::ONE,
         }
     }
 
-    /// The curves of a version, in the same order.
+    /// Those of a version, in the same order.
     pub fn of(version: Version) -> impl Iterator<Item = Curve> {
-        Curve::ALL.into_iter().filter(move |curve| curve.span().holds(version))
+        Curve::ALL.into_iter().filter(move |curve| curve.since() <= version)
     }
 }
 
@@ -163,8 +163,9 @@ pub struct Case {
     pub short_term: Reserve,
     /// In the order of `Curve::ALL`; empty where the version has none.
     pub curves: [[Step; CURVE_STEPS]; CURVES],
-    /// Each zone's requirements, in the order of `Curve::OF_ZONES`.
-    pub zones: Vec<[Kw; ZONE_CURVES]>,
+    /// Each zone's requirements, in the order of `Curve::ALL`; 0 of a curve that is
+    /// not of zones.
+    pub zones: Vec<[Kw; CURVES]>,
     pub resources: Vec<Resource>,
     pub flowgates: Vec<Flowgate>,
 }
@@ -173,11 +174,5 @@ impl Case {
     /// The most that can clear on a curve.
     pub fn curve_width(&self, curve: Curve) -> Kw {
         self.curves[curve as usize].iter().map(|step| step.width).sum()
-    }
-
-    /// What a zone, counted from 0, asks for; 0 of a curve that is not of zones.
-    pub fn requirement(&self, zone: usize, curve: Curve) -> Kw {
-        let requirements = Curve::OF_ZONES.into_iter().zip(self.zones[zone]);
-        requirements.filter(|(other, _)| *other == curve).map(|(_, power)| power).sum()
     }
 }

@@ -32,7 +32,7 @@ pub fn check_case_numbers(
     if !fields.iter().zip(numbers).all(|(field, number)| field.allows(*number)) {
         return Err(Refusal::FieldRange);
     }
-    let case = Case::from_fields(version, counts, fields, numbers);
+    let case = Case::from_numbers(version, counts, numbers);
     if !steps_follow_their_rule(&case) {
         return Err(Refusal::StepRule);
     }

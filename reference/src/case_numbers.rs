@@ -2,23 +2,14 @@
 //! field's name; what a version does not have reads as 0 and is not written.
 
 use crate::case::{Case, Curve, Flowgate, Kind, Limits, Reserve, Resource, Step};
-use crate::layout::{self, Counts, Field, Part, Record, Version, ZONE_CURVES};
+use crate::layout::{self, Counts, Field, Part, Record, Version, CURVES};
 use crate::units::Kw;
 
 impl Case {
     /// The case whose fields, counts left out, hold these numbers.
     pub fn from_numbers(version: Version, counts: Counts, numbers: &[i64]) -> Case {
-        Case::from_fields(version, counts, &layout::case_fields(version, counts), numbers)
-    }
-
-    /// The same, for one who has the fields at hand.
-    pub(crate) fn from_fields(
-        version: Version,
-        counts: Counts,
-        fields: &[Field],
-        numbers: &[i64],
-    ) -> Case {
-        let records = layout::records(fields, numbers);
+        let fields = layout::case_fields(version, counts);
+        let records = layout::records(&fields, numbers);
         let of = |part| records.iter().filter(move |record| record.is_of(part)).copied();
         let head = of(Part::Head).next().unwrap_or_default();
         Case {
@@ -37,22 +28,17 @@ impl Case {
 
     /// The numbers of its fields, counts left out, in the order of the file.
     pub fn numbers(&self) -> Vec<i64> {
-        self.numbers_of(&layout::case_fields(self.version, self.counts))
-    }
-
-    /// The same, for one who has the fields at hand.
-    pub(crate) fn numbers_of(&self, fields: &[Field]) -> Vec<i64> {
+        let fields = layout::case_fields(self.version, self.counts);
         fields.iter().map(|field| self.number(field).unwrap_or(0)).collect()
     }
 
     /// The number of one of its fields; None for what it does not have.
     fn number(&self, field: &Field) -> Option<i64> {
-        let of = field.of.wrapping_sub(1);
         match field.part {
             Part::Head => self.head_number(field),
-            Part::Zone => zone_number(self.zones.get(of)?, field),
-            Part::Resource => resource_number(self.resources.get(of)?, field),
-            Part::Flowgate => flowgate_number(self.flowgates.get(of)?, field),
+            Part::Zone => zone_number(self.zones.get(field.of - 1)?, field),
+            Part::Resource => resource_number(self.resources.get(field.of - 1)?, field),
+            Part::Flowgate => flowgate_number(self.flowgates.get(field.of - 1)?, field),
         }
     }
 
@@ -133,21 +119,25 @@ fn step_number(steps: &[Step], names: StepNames, field: &Field) -> Option<i64> {
     Some([step.width, step.price][at])
 }
 
-/// The names of a zone's requirements, in the order of `Curve::OF_ZONES`.
-const REQUIREMENTS: [&str; ZONE_CURVES] = [
-    "operating requirement",
-    "regulating-plus-spinning requirement",
-    "regulating requirement",
-    "short-term requirement",
+/// The names of a zone's requirements.
+const REQUIREMENTS: [(Curve, &str); 4] = [
+    (Curve::Operating, "operating requirement"),
+    (Curve::RegulatingPlusSpinning, "regulating-plus-spinning requirement"),
+    (Curve::Regulating, "regulating requirement"),
+    (Curve::ShortTerm, "short-term requirement"),
 ];
 
-fn read_zone(record: Record) -> [Kw; ZONE_CURVES] {
-    REQUIREMENTS.map(|name| record.number(name))
+fn read_zone(record: Record) -> [Kw; CURVES] {
+    let mut requirements = [0; CURVES];
+    for (curve, name) in REQUIREMENTS {
+        requirements[curve as usize] = record.number(name);
+    }
+    requirements
 }
 
-fn zone_number(requirements: &[Kw; ZONE_CURVES], field: &Field) -> Option<i64> {
-    let at = REQUIREMENTS.iter().position(|name| *name == field.name)?;
-    Some(requirements[at])
+fn zone_number(requirements: &[Kw; CURVES], field: &Field) -> Option<i64> {
+    let (curve, _) = REQUIREMENTS.into_iter().find(|(_, name)| *name == field.name)?;
+    Some(requirements[curve as usize])
 }
 
 fn read_resource(record: Record) -> Resource {

@@ -21,20 +21,10 @@ pub struct Certificate {
 }
 
 impl Certificate {
-    /// The certificate whose fields, counts left out, hold these numbers.
+    /// The certificate whose fields, counts left out, hold these numbers. Places
+    /// and rows go in the order of their fields.
     pub fn from_numbers(version: Version, counts: Counts, numbers: &[i64]) -> Certificate {
         let fields = layout::certificate_fields(version, counts);
-        Certificate::from_fields(version, counts, &fields, numbers)
-    }
-
-    /// The same, for one who has the fields at hand. Places and rows go in the
-    /// order of their fields.
-    fn from_fields(
-        version: Version,
-        counts: Counts,
-        fields: &[Field],
-        numbers: &[i64],
-    ) -> Certificate {
         let of_kind = |quantity: bool| {
             let both = fields.iter().zip(numbers);
             both.filter(move |(field, _)| field.quantity == quantity).map(|(_, number)| *number)
@@ -101,7 +91,7 @@ fn well_formed(case: &Case, file: &[u8]) -> Result<Certificate, Refusal> {
     if !fields.iter().zip(&numbers).all(|(field, number)| field.allows(*number)) {
         return Err(Refusal::Price);
     }
-    Ok(Certificate::from_fields(version, counts, &fields, &numbers))
+    Ok(Certificate::from_numbers(version, counts, &numbers))
 }
 
 /// The upper bound of each quantity, in the order of places.

@@ -330,7 +330,6 @@ struct Order {
     count: usize,
     directory: String,
     manner: Manner,
-    version: Version,
     counts: Option<Counts>,
 }
 
@@ -367,7 +366,6 @@ fn generate_order(arguments: &[String]) -> Result<Order, Trouble> {
         count: count_number(count)?,
         directory: directory.clone(),
         manner: Manner::Mixed,
-        version: Version::ONE,
         counts: None,
     };
     let mut left = options;
@@ -413,11 +411,12 @@ fn size(resources: &str, zones: &str, flowgates: &str) -> Result<Counts, Trouble
 
 /// The next pair of files, or in the systematic manner all that spring from it.
 fn next_files(random: &mut Random, order: &Order) -> Vec<(Vec<u8>, Vec<u8>)> {
+    let version = random.pick(&Version::ALL);
     let counts = match order.counts {
         Some(counts) => counts,
         None => random_counts(random),
     };
-    let pair = varied_pair(random, order.version, counts);
+    let pair = varied_pair(random, version, counts);
     let sound = (pair.case_file(), pair.certificate_file());
     match order.manner {
         Manner::Accepted => vec![sound],

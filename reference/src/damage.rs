@@ -492,12 +492,9 @@ fn broken_market_row(pair: &Pair, curve: Curve, slack: i64) -> Broken {
 
 fn broken_zone_row(pair: &Pair, zone: usize, curve: Curve, slack: i64) -> Broken {
     let mut case = pair.case.clone();
-    for (requirement, other) in case.zones[zone].iter_mut().zip(Curve::OF_ZONES) {
-        if other == curve {
-            *requirement += slack + 1;
-        }
-    }
-    if case.requirement(zone, curve) > 2_000_000 {
+    let requirement = &mut case.zones[zone][curve as usize];
+    *requirement += slack + 1;
+    if *requirement > 2_000_000 {
         return Vec::new();
     }
     vec![(format!("zone {zone} asks for a kW too much of {curve:?}"), with_case(pair, case))]

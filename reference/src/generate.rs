@@ -8,7 +8,7 @@ use crate::case::{flag, status, Case, Curve, Flowgate, Kind, Limits, Reserve, Re
 use crate::certificate::Certificate;
 use crate::layout::{
     self, Counts, Version, CURVES, CURVE_STEPS, ENERGY_STEPS, MOST_FLOWGATES, MOST_RESOURCES,
-    MOST_ZONES, ZONE_CURVES,
+    MOST_ZONES,
 };
 use crate::random::Random;
 use crate::rows::{index_of, index_of_cleared, row_names, RowName};
@@ -29,7 +29,7 @@ impl Pair {
     pub fn case_file(&self) -> Vec<u8> {
         let Case { version, counts, .. } = self.case;
         let fields = layout::case_fields(version, counts);
-        layout::write_fields(version, counts, &self.case.numbers_of(&fields), &fields)
+        layout::write_fields(version, counts, &self.case.numbers(), &fields)
     }
 
     pub fn certificate_file(&self) -> Vec<u8> {
@@ -231,8 +231,8 @@ fn withdraw_tripped(pair: &mut Pair) {
     }
     for zone in 1..=case.counts.zones {
         let provided = provided(case, amounts, Some(zone));
-        for (requirement, curve) in case.zones[zone - 1].iter_mut().zip(Curve::OF_ZONES) {
-            *requirement = provided[curve as usize].min(*requirement);
+        for (requirement, sum) in case.zones[zone - 1].iter_mut().zip(provided) {
+            *requirement = sum.min(*requirement);
         }
     }
     let provided = provided(case, amounts, None);
@@ -335,7 +335,7 @@ fn market(random: &mut Random, version: Version, counts: Counts, scale: Scale) -
         regulating: reserve(random, scale),
         short_term: reserve(random, scale),
         curves: [[Step::default(); CURVE_STEPS]; CURVES],
-        zones: vec![[0; ZONE_CURVES]; counts.zones],
+        zones: vec![[0; CURVES]; counts.zones],
         resources: Vec::new(),
         flowgates: Vec::new(),
     };
@@ -585,8 +585,10 @@ fn provided(case: &Case, amounts: &[Kw], zone: Option<usize>) -> [Kw; CURVES] {
 fn set_zone_requirements(random: &mut Random, case: &mut Case, amounts: &[Kw], scale: Scale) {
     for zone in 1..=case.counts.zones {
         let provided = provided(case, amounts, Some(zone));
-        let most = Curve::OF_ZONES.map(|curve| provided[curve as usize].min(2_000_000));
-        case.zones[zone - 1] = most.map(|sum| scale.draw(random, 0, sum));
+        for curve in Curve::OF_ZONES {
+            let most = provided[curve as usize].min(2_000_000);
+            case.zones[zone - 1][curve as usize] = scale.draw(random, 0, most);
+        }
     }
 }
 

@@ -2,16 +2,13 @@
 //! it may hold, in each version. Reading, writing, the range checks and the
 //! generator's damage all go by these lists.
 
-pub mod tables;
+mod tables;
 mod version;
 
 pub use tables::{case_fields, certificate_fields};
-pub use version::{Span, Version};
+pub use version::Version;
 
-use crate::case::Curve;
-use crate::rows::{quantities, row_names};
-use crate::standing::Product;
-use std::ops::RangeInclusive;
+use std::ops::Range;
 
 /// The three counts that fix the shape of a case and of its certificates.
 #[derive(Clone, Copy, Debug, PartialEq, Eq)]
@@ -34,10 +31,8 @@ pub const SHORTEST_CERTIFICATE: usize = 44;
 
 pub const ENERGY_STEPS: usize = 10;
 pub const CURVE_STEPS: usize = 4;
-/// How many curves there are, in all versions together, and how many of them
-/// zones have requirements for.
+/// In all versions together.
 pub const CURVES: usize = 4;
-pub const ZONE_CURVES: usize = 4;
 
 impl Counts {
     /// The counts as written, or None if one is out of range.
@@ -59,25 +54,9 @@ impl Counts {
         })
     }
 
-    pub fn row_count(self, version: Version) -> usize {
-        row_names(version, self).len()
-    }
-
-    /// How many quantities a schedule has, which is the last place of 13.
-    pub fn place_count(self, version: Version) -> usize {
-        quantities(version, self).len()
-    }
-
     /// LMPs and zone prices, as many in every version.
     pub fn price_count(self) -> usize {
         self.resources + 4 * self.zones
-    }
-
-    /// Rows; per resource its energy steps and its other products; curve steps.
-    pub fn charge_count(self, version: Version) -> usize {
-        let of_resource = ENERGY_STEPS + Product::beside_energy(version).count();
-        let curve_steps = CURVE_STEPS * Curve::of(version).count();
-        self.row_count(version) + of_resource * self.resources + curve_steps
     }
 }
 
@@ -144,12 +123,12 @@ pub enum Part {
 
 impl Part {
     /// The zones, resources or flowgates that have such a part; 0 for the head.
-    fn owners(self, counts: Counts) -> RangeInclusive<usize> {
+    fn owners(self, counts: Counts) -> Range<usize> {
         match self {
-            Part::Head => 0..=0,
-            Part::Zone => 1..=counts.zones,
-            Part::Resource => 1..=counts.resources,
-            Part::Flowgate => 1..=counts.flowgates,
+            Part::Head => 0..1,
+            Part::Zone => 1..counts.zones + 1,
+            Part::Resource => 1..counts.resources + 1,
+            Part::Flowgate => 1..counts.flowgates + 1,
         }
     }
 }
@@ -161,7 +140,7 @@ pub struct Field {
     pub part: Part,
     /// The zone, resource or flowgate it belongs to, from 1; 0 if to none.
     pub of: usize,
-    /// Which of its name it is there, from 0: of steps and shift factors.
+    /// Which it is of those of its name there, from 0: steps and shift factors.
     pub index: usize,
     pub width: Width,
     pub least: i64,

@@ -4,7 +4,7 @@
 //! are; what stands in them does not ask for it.
 
 use crate::case::{Case, Curve};
-use crate::layout::{Counts, Span, Version};
+use crate::layout::{Counts, Version};
 use crate::standing::{Product, Standing};
 
 /// One quantity of a schedule.
@@ -23,6 +23,17 @@ pub fn quantities(version: Version, counts: Counts) -> Vec<Quantity> {
         Product::of(version).map(move |product| Quantity::Of(resource, product))
     });
     cleared.chain(of_resources).collect()
+}
+
+impl Counts {
+    pub fn row_count(self, version: Version) -> usize {
+        row_names(version, self).len()
+    }
+
+    /// How many quantities a schedule has, which is the last place of 13.
+    pub fn place_count(self, version: Version) -> usize {
+        quantities(version, self).len()
+    }
 }
 
 /// Where a curve's cleared quantity stands in the list of quantities, from 0.
@@ -55,20 +66,20 @@ impl Limit {
     pub const ALL: [Limit; 5] =
         [Limit::Maximum, Limit::MaximumWithShortTerm, Limit::Minimum, Limit::High, Limit::Low];
 
-    /// The versions that have it.
-    fn span(self) -> Span {
+    /// The first version that has it; all later ones do.
+    fn since(self) -> Version {
         match self {
             Limit::Maximum
             | Limit::MaximumWithShortTerm
             | Limit::Minimum
             | Limit::High
-            | Limit::Low => Span::ALWAYS,
+            | Limit::Low => Version::ONE,
         }
     }
 
-    /// The rows of a version, in the same order.
+    /// Those of a version, in the same order.
     pub fn of(version: Version) -> impl Iterator<Item = Limit> {
-        Limit::ALL.into_iter().filter(move |limit| limit.span().holds(version))
+        Limit::ALL.into_iter().filter(move |limit| limit.since() <= version)
     }
 
     /// Those that say 'at most' are turned round.
@@ -162,9 +173,7 @@ pub fn rows(case: &Case, standings: &[Standing]) -> Vec<Row> {
     row_names(case.version, case.counts).into_iter().map(row).collect()
 }
 
-/// What a quantity counts in a row. Asked for every pair of the two, so it is
-/// worth unfolding.
-#[inline(always)]
+/// What a quantity counts in a row.
 fn coefficient(case: &Case, standings: &[Standing], row: RowName, quantity: Quantity) -> i64 {
     let serves = |resource: usize, product, curve| {
         i64::from(serves(product, standings[resource].spinning, curve))
@@ -208,7 +217,7 @@ fn right(case: &Case, standings: &[Standing], row: RowName) -> i64 {
     match row {
         RowName::Demand => case.demand,
         RowName::Market(_) => 0,
-        RowName::Zone(zone, curve) => case.requirement(zone, curve),
+        RowName::Zone(zone, curve) => case.zones[zone][curve as usize],
         RowName::Flowgate(flowgate) => -1000 * case.flowgates[flowgate].limit,
         RowName::Of(resource, limit) => limit.right(&standings[resource]),
     }

@@ -3,7 +3,7 @@
 //! quantities.
 
 use crate::case::{flag, status, Case, Kind, Limits, Reserve, Resource};
-use crate::layout::{Span, Version};
+use crate::layout::Version;
 use crate::units::Kw;
 
 /// The quantities of a resource, in the order of the certificate.
@@ -37,20 +37,20 @@ impl Product {
         Product::OfflineShortTerm,
     ];
 
-    /// The versions that have it.
-    fn span(self) -> Span {
+    /// The first version that has it; all later ones do.
+    fn since(self) -> Version {
         match self {
             Product::Energy
             | Product::Regulating
             | Product::Contingency
             | Product::OnlineShortTerm
-            | Product::OfflineShortTerm => Span::ALWAYS,
+            | Product::OfflineShortTerm => Version::ONE,
         }
     }
 
-    /// The products of a version, in the same order.
+    /// Those of a version, in the same order.
     pub fn of(version: Version) -> impl Iterator<Item = Product> {
-        Product::ALL.into_iter().filter(move |product| product.span().holds(version))
+        Product::ALL.into_iter().filter(move |product| product.since() <= version)
     }
 
     /// Those that are priced and charged as they are; energy is by its steps.

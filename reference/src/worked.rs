@@ -3,7 +3,7 @@
 use crate::case::{Case, Kind, Limits, Reserve, Resource, Step};
 use crate::certificate::Certificate;
 use crate::generate::Pair;
-use crate::layout::{Counts, Version, CURVES, CURVE_STEPS, ENERGY_STEPS, ZONE_CURVES};
+use crate::layout::{Counts, Version, CURVES, CURVE_STEPS, ENERGY_STEPS};
 use crate::rows::index_of;
 use crate::standing::Product;
 
@@ -19,7 +19,7 @@ pub fn pair() -> Pair {
         regulating: reserve,
         short_term: reserve,
         curves: [[Step::default(); CURVE_STEPS]; CURVES],
-        zones: vec![[0; ZONE_CURVES]],
+        zones: vec![[0; CURVES]],
         resources: vec![resource()],
         flowgates: Vec::new(),
     };

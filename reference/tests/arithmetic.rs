@@ -10,7 +10,7 @@ use nostwier_reference::generate::{
     full_pair, pair_of_counts, pair_of_scale, random_pair, varied_pair, Pair, Scale,
 };
 use nostwier_reference::layout::{
-    case_fields, Counts, Version, MOST_FLOWGATES, MOST_RESOURCES, MOST_ZONES,
+    case_fields, Counts, Version, CURVES, MOST_FLOWGATES, MOST_RESOURCES, MOST_ZONES,
 };
 use nostwier_reference::prices::lmps;
 use nostwier_reference::random::Random;
@@ -159,7 +159,7 @@ fn widest(factor: i64, energy_price: i64, row_price: i64) -> Pair {
     let limit = if factor > 0 { 20_000_000 } else { -20_000_000 };
     let flowgate = Flowgate { limit, factors: vec![factor; LARGEST.resources] };
     pair.case.flowgates = vec![flowgate; LARGEST.flowgates];
-    pair.case.zones = vec![[0; 4]; LARGEST.zones];
+    pair.case.zones = vec![[0; CURVES]; LARGEST.zones];
     // Factors above 0 let only a part of the energy through.
     let energy = if factor > 0 { 300_000 } else { 2_000_000 };
     pair.case.demand = LARGEST.resources as i64 * energy;

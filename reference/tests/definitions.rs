@@ -7,10 +7,10 @@ use nostwier_reference::accounts::accounts;
 use nostwier_reference::case::{flag, status, Case, Flowgate, Kind, Limits, Reserve, Resource};
 use nostwier_reference::certificate::accept;
 use nostwier_reference::generate::Pair;
-use nostwier_reference::layout::{case_fields, certificate_fields, Counts, Field, Version};
+use nostwier_reference::layout::{case_fields, certificate_fields, Counts, Field, Version, CURVES};
 use nostwier_reference::rows::rows;
 use nostwier_reference::standing::{
-    operating_state, standing, standings, OperatingState, Standing,
+    operating_state, standing, standings, OperatingState, Product, Standing, PRODUCTS,
 };
 use nostwier_reference::{charges, prices, worked, Refusal, Totals};
 
@@ -23,6 +23,11 @@ fn changed(change: impl Fn(&mut Resource)) -> Case {
 
 fn of(case: &Case) -> Standing {
     standing(case, &case.resources[0])
+}
+
+/// Its upper bounds of e, g, c, s and o.
+fn bounds_of(case: &Case) -> Vec<i64> {
+    Product::of(case.version).map(|product| of(case).bound(product)).collect()
 }
 
 #[test]
@@ -248,7 +253,7 @@ fn on_line_bounds_are_the_least_of_ramp_share_and_maximum() {
             resource.offline_short_term = 5;
         });
         let [regulating, contingency, short_term] = bounds;
-        assert_eq!(of(&case).bounds, [100_000, regulating, contingency, short_term, 0]);
+        assert_eq!(bounds_of(&case), [100_000, regulating, contingency, short_term, 0]);
     }
 }
 
@@ -270,7 +275,7 @@ fn on_line_bounds_need_their_flags() {
         });
         let [regulating, contingency, short_term] = bounds;
         let expected = [100_000, regulating, contingency, short_term, 0];
-        assert_eq!(of(&case).bounds, expected, "flags {flags}, status {bits}");
+        assert_eq!(bounds_of(&case), expected, "flags {flags}, status {bits}");
     }
 }
 
@@ -297,7 +302,7 @@ fn off_line_bounds() {
             resource.offline_short_term = short_term_limit;
         });
         let [contingency, short_term] = bounds;
-        assert_eq!(of(&case).bounds, [0, 0, contingency, 0, short_term], "flags {flags}");
+        assert_eq!(bounds_of(&case), [0, 0, contingency, 0, short_term], "flags {flags}");
     }
 }
 
@@ -321,18 +326,18 @@ fn offering_all(closed: bool, trip: i64) -> Case {
 #[test]
 fn a_tripped_resource_has_the_limits_of_an_off_line_one_and_no_bounds() {
     let offline = of(&offering_all(false, 16));
-    assert_eq!(offline.bounds, [0, 0, 700, 0, 20_000]);
+    assert_eq!(bounds_of(&offering_all(false, 16)), [0, 0, 700, 0, 20_000]);
     for closed in [false, true] {
         for trip in [0, 14, 15] {
             let tripped = of(&offering_all(closed, trip));
             let state = OperatingState::Tripped;
-            assert_eq!(tripped, Standing { state, bounds: [0; 5], ..offline });
+            assert_eq!(tripped, Standing { state, bounds: [0; PRODUCTS], ..offline });
             let limits = (tripped.maximum, tripped.minimum, tripped.high, tripped.low);
             assert_eq!(limits, (100_000, 0, 100_000, 0));
             assert!(!tripped.spinning && !tripped.is_online());
         }
     }
-    assert_eq!(of(&offering_all(true, 16)).bounds, [100_000, 700, 800, 900, 0]);
+    assert_eq!(bounds_of(&offering_all(true, 16)), [100_000, 700, 800, 900, 0]);
 }
 
 /// Request 2: places 5 to 9 are e, g, c, s and o of K's resource.
@@ -431,7 +436,7 @@ fn supplemental_reserve_of_an_on_line_resource_does_not_spin() {
 #[test]
 fn lmps_and_zone_prices_add_their_rows() {
     let mut pair = two_resources();
-    pair.case.zones = vec![[0; 4]; 2];
+    pair.case.zones = vec![[0; CURVES]; 2];
     pair.case.flowgates[0] = Flowgate { limit: 18_000, factors: vec![300, -400] };
     let digits = [1, 10, 100, 1_000];
     pair.certificate.row_prices[0] = 5_000_000;
@@ -453,7 +458,7 @@ fn lmps_and_zone_prices_add_their_rows() {
 #[test]
 fn steps_of_an_off_line_resource_take_no_part_in_the_bound() {
     let mut pair = two_resources();
-    pair.case.zones = vec![[0; 4]; 2];
+    pair.case.zones = vec![[0; CURVES]; 2];
     pair.case.flowgates[0] = Flowgate { limit: 18_000, factors: vec![300, 0] };
     pair.certificate.row_prices[0] = 3_000_000;
     assert_eq!(check(&pair).map(|totals| totals.gap), Ok(0));
@@ -516,12 +521,12 @@ fn every_market_and_zone_row_can_be_the_one_that_breaks() {
     pair.case.flowgates[0] = Flowgate { limit: 18_000, factors: vec![300, 0] };
     for zone in 0..2 {
         for curve in 0..4 {
-            pair.case.zones = vec![[0; 4]; 2];
+            pair.case.zones = vec![[0; CURVES]; 2];
             pair.case.zones[zone][curve] = 1;
             assert_eq!(check(&pair), refused(Refusal::Row { row: 6 + 4 * zone + curve }));
         }
     }
-    pair.case.zones = vec![[0; 4]; 2];
+    pair.case.zones = vec![[0; CURVES]; 2];
     pair.case.flowgates[0].limit = 17_999;
     assert_eq!(check(&pair), refused(Refusal::Row { row: 14 }));
 }

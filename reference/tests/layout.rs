@@ -1,6 +1,6 @@
 //! The two files of each known version: sizes, names of fields, the byte that
-//! tells the version, and what is counted of a version. Figures stand here as the
-//! paper has them.
+//! tells the version, and what is counted of a version. Figures are those of the
+//! paper.
 
 mod common;
 
@@ -199,4 +199,5 @@ fn unknown_versions_are_refused_by_2_and_9() {
         assert_eq!(answer, Err(Refusal::CertificateVersion), "{byte}");
     }
     assert_eq!(known, [1]);
+    assert_eq!(Version::ALL.map(Version::byte).as_slice(), known, "from the oldest on");
 }

@@ -1,7 +1,10 @@
-//! The fields of both files as tables, a table for each part. A line of a table
-//! says in which versions it stands; a version's file is what its lines make.
+//! The fields of both files as tables, a table for each part. A line stands in the
+//! version that is beside it and in all later ones; a version's file is what its
+//! lines make.
 
-use super::{Counts, Field, Part, Span, Version, Width, CURVE_STEPS, ENERGY_STEPS};
+use super::{Counts, Field, Part, Version, Width, CURVE_STEPS, ENERGY_STEPS};
+
+const ONE: Version = Version::ONE;
 
 const POWER: i64 = 2_000_000;
 const DEMAND: i64 = 128_000_000;
@@ -12,7 +15,7 @@ const OFFER_PRICE: i64 = 400_000;
 const ROW_PRICE: i64 = 400_000_000;
 
 /// Which numbers a field may hold.
-#[derive(Clone, Copy, Debug, PartialEq, Eq)]
+#[derive(Clone, Copy, PartialEq, Eq)]
 enum Range {
     Within(i64, i64),
     /// A zone of the case.
@@ -22,65 +25,42 @@ enum Range {
     Quantity,
 }
 
-#[derive(Clone, Copy, Debug, PartialEq, Eq)]
+#[derive(Clone, Copy)]
 struct Entry {
     name: &'static str,
     width: Width,
     range: Range,
 }
 
+impl Entry {
+    fn field(self, part: Part, index: usize, counts: Counts) -> Field {
+        let Entry { name, width, range } = self;
+        let (least, most) = match range {
+            Range::Within(least, most) => (least, most),
+            Range::Zone => (1, counts.zones as i64),
+            Range::Quantity => width.ends(),
+        };
+        let quantity = range == Range::Quantity;
+        Field { name, part, of: 0, index, width, least, most, quantity }
+    }
+}
+
 /// How often a line stands in its part.
-#[derive(Clone, Copy, Debug, PartialEq, Eq)]
+#[derive(Clone, Copy)]
 enum Times {
     Fixed(usize),
-    /// Once for each resource.
-    Resources,
+    EachResource,
 }
 
 /// A line of a table: a field, or the width and the price of a step.
-#[derive(Clone, Copy, Debug, PartialEq, Eq)]
-pub struct Line {
-    field: Entry,
+struct Line {
+    entry: Entry,
     price: Option<Entry>,
     times: Times,
-    span: Span,
-}
-
-impl Line {
-    /// The line from that version on.
-    pub const fn since(self, first: Version) -> Line {
-        Line { span: Span { first, ..self.span }, ..self }
-    }
-
-    /// The line up to that version, which still has it.
-    pub const fn until(self, last: Version) -> Line {
-        Line { span: Span { last: Some(last), ..self.span }, ..self }
-    }
-
-    /// Adds its fields, whichever zone, resource or flowgate they are of.
-    fn add(&self, part: Part, counts: Counts, fields: &mut Vec<Field>) {
-        let times = match self.times {
-            Times::Fixed(times) => times,
-            Times::Resources => counts.resources,
-        };
-        for index in 0..times {
-            for entry in [Some(self.field), self.price].into_iter().flatten() {
-                let (least, most) = match entry.range {
-                    Range::Within(least, most) => (least, most),
-                    Range::Zone => (1, counts.zones as i64),
-                    Range::Quantity => entry.width.ends(),
-                };
-                let quantity = entry.range == Range::Quantity;
-                let Entry { name, width, .. } = entry;
-                fields.push(Field { name, part, of: 0, index, width, least, most, quantity });
-            }
-        }
-    }
 }
 
 const fn line(name: &'static str, width: Width, range: Range) -> Line {
-    let field = Entry { name, width, range };
-    Line { field, price: None, times: Times::Fixed(1), span: Span::ALWAYS }
+    Line { entry: Entry { name, width, range }, price: None, times: Times::Fixed(1) }
 }
 
 const fn field(name: &'static str, width: Width, least: i64, most: i64) -> Line {
@@ -124,129 +104,132 @@ const fn quantity(name: &'static str) -> Line {
 }
 
 const fn steps(times: usize, width: Line, price: Line) -> Line {
-    Line { price: Some(price.field), times: Times::Fixed(times), ..width }
+    Line { price: Some(price.entry), times: Times::Fixed(times), ..width }
 }
 
 const fn curve(width: &'static str, price: &'static str) -> Line {
     steps(CURVE_STEPS, market_power(width), offer_price(price))
 }
 
-const fn each_resource(line: Line) -> Line {
-    Line { times: Times::Resources, ..line }
+const fn offer(width: &'static str, price: &'static str) -> Line {
+    steps(ENERGY_STEPS, power(width), field(price, Width::I32, -OFFER_PRICE, OFFER_PRICE))
 }
 
-/// A file: its parts in order, each with its table.
-pub type Table = [(Part, &'static [Line])];
+const fn each_resource(line: Line) -> Line {
+    Line { times: Times::EachResource, ..line }
+}
 
-pub const CASE: &Table = &[
+/// The lines of a part, each with the version since which it stands.
+type Lines = [(Version, Line)];
+
+/// A file: its parts in order, each with its lines.
+type Table = [(Part, &'static Lines)];
+
+const CASE: &Table = &[
     (Part::Head, CASE_HEAD),
     (Part::Zone, CASE_ZONE),
     (Part::Resource, CASE_RESOURCE),
     (Part::Flowgate, CASE_FLOWGATE),
 ];
 
-const CASE_HEAD: &[Line] = &[
-    field("demand", Width::U32, 0, DEMAND),
-    multiplier("contingency multiplier"),
-    minutes("contingency minutes"),
-    multiplier("regulating multiplier"),
-    minutes("regulating minutes"),
-    multiplier("short-term multiplier"),
-    minutes("short-term minutes"),
-    share("regulating share"),
-    share("contingency share"),
-    share("short-term share"),
-    market_power("regulating market requirement"),
-    market_power("contingency market requirement"),
-    market_power("short-term market requirement"),
-    curve("operating curve width", "operating curve price"),
-    curve("regulating-plus-spinning curve width", "regulating-plus-spinning curve price"),
-    curve("regulating curve width", "regulating curve price"),
-    curve("short-term curve width", "short-term curve price"),
+const CASE_HEAD: &Lines = &[
+    (ONE, field("demand", Width::U32, 0, DEMAND)),
+    (ONE, multiplier("contingency multiplier")),
+    (ONE, minutes("contingency minutes")),
+    (ONE, multiplier("regulating multiplier")),
+    (ONE, minutes("regulating minutes")),
+    (ONE, multiplier("short-term multiplier")),
+    (ONE, minutes("short-term minutes")),
+    (ONE, share("regulating share")),
+    (ONE, share("contingency share")),
+    (ONE, share("short-term share")),
+    (ONE, market_power("regulating market requirement")),
+    (ONE, market_power("contingency market requirement")),
+    (ONE, market_power("short-term market requirement")),
+    (ONE, curve("operating curve width", "operating curve price")),
+    (ONE, curve("regulating-plus-spinning curve width", "regulating-plus-spinning curve price")),
+    (ONE, curve("regulating curve width", "regulating curve price")),
+    (ONE, curve("short-term curve width", "short-term curve price")),
 ];
 
-const CASE_ZONE: &[Line] = &[
-    power("operating requirement"),
-    power("regulating-plus-spinning requirement"),
-    power("regulating requirement"),
-    power("short-term requirement"),
+const CASE_ZONE: &Lines = &[
+    (ONE, power("operating requirement")),
+    (ONE, power("regulating-plus-spinning requirement")),
+    (ONE, power("regulating requirement")),
+    (ONE, power("short-term requirement")),
 ];
 
-const CASE_RESOURCE: &[Line] = &[
-    field("kind", Width::U8, 1, 3),
-    line("zone", Width::U8, Range::Zone),
-    field("breaker", Width::U8, 0, 1),
-    field("status", Width::U8, 0, 15),
-    field("minutes since trip", Width::U8, 0, 255),
-    field("flags", Width::U8, 0, 255),
-    field("estimated output", Width::I32, -POWER, POWER),
-    power("economic minimum"),
-    power("economic maximum"),
-    power("regulating minimum"),
-    power("regulating maximum"),
-    power("emergency minimum"),
-    power("emergency maximum"),
-    ramp("ramp up"),
-    ramp("ramp down"),
-    ramp("ramp rate"),
-    power("initial energy"),
-    power("off-line response limit"),
-    power("off-line short-term limit"),
-    power("self-schedule"),
-    offer_price("regulating price"),
-    offer_price("contingency price"),
-    offer_price("off-line short-term price"),
-    steps(
-        ENERGY_STEPS,
-        power("energy width"),
-        field("energy price", Width::I32, -OFFER_PRICE, OFFER_PRICE),
-    ),
+const CASE_RESOURCE: &Lines = &[
+    (ONE, field("kind", Width::U8, 1, 3)),
+    (ONE, line("zone", Width::U8, Range::Zone)),
+    (ONE, field("breaker", Width::U8, 0, 1)),
+    (ONE, field("status", Width::U8, 0, 15)),
+    (ONE, field("minutes since trip", Width::U8, 0, 255)),
+    (ONE, field("flags", Width::U8, 0, 255)),
+    (ONE, field("estimated output", Width::I32, -POWER, POWER)),
+    (ONE, power("economic minimum")),
+    (ONE, power("economic maximum")),
+    (ONE, power("regulating minimum")),
+    (ONE, power("regulating maximum")),
+    (ONE, power("emergency minimum")),
+    (ONE, power("emergency maximum")),
+    (ONE, ramp("ramp up")),
+    (ONE, ramp("ramp down")),
+    (ONE, ramp("ramp rate")),
+    (ONE, power("initial energy")),
+    (ONE, power("off-line response limit")),
+    (ONE, power("off-line short-term limit")),
+    (ONE, power("self-schedule")),
+    (ONE, offer_price("regulating price")),
+    (ONE, offer_price("contingency price")),
+    (ONE, offer_price("off-line short-term price")),
+    (ONE, offer("energy width", "energy price")),
 ];
 
-const CASE_FLOWGATE: &[Line] = &[
-    field("flowgate limit", Width::I32, -FLOWGATE_LIMIT, FLOWGATE_LIMIT),
-    each_resource(field("shift factor", Width::I16, -1000, 1000)),
+const CASE_FLOWGATE: &Lines = &[
+    (ONE, field("flowgate limit", Width::I32, -FLOWGATE_LIMIT, FLOWGATE_LIMIT)),
+    (ONE, each_resource(field("shift factor", Width::I16, -1000, 1000))),
 ];
 
-pub const CERTIFICATE: &Table = &[
+const CERTIFICATE: &Table = &[
     (Part::Head, CERTIFICATE_HEAD),
     (Part::Zone, CERTIFICATE_ZONE),
     (Part::Flowgate, CERTIFICATE_FLOWGATE),
     (Part::Resource, CERTIFICATE_RESOURCE),
 ];
 
-const CERTIFICATE_HEAD: &[Line] = &[
-    quantity("cleared operating"),
-    quantity("cleared regulating-plus-spinning"),
-    quantity("cleared regulating"),
-    quantity("cleared short-term"),
-    field("energy row price", Width::I32, -ROW_PRICE, ROW_PRICE),
-    row_price("operating row price"),
-    row_price("regulating-plus-spinning row price"),
-    row_price("regulating row price"),
-    row_price("short-term row price"),
+const CERTIFICATE_HEAD: &Lines = &[
+    (ONE, quantity("cleared operating")),
+    (ONE, quantity("cleared regulating-plus-spinning")),
+    (ONE, quantity("cleared regulating")),
+    (ONE, quantity("cleared short-term")),
+    (ONE, field("energy row price", Width::I32, -ROW_PRICE, ROW_PRICE)),
+    (ONE, row_price("operating row price")),
+    (ONE, row_price("regulating-plus-spinning row price")),
+    (ONE, row_price("regulating row price")),
+    (ONE, row_price("short-term row price")),
 ];
 
-const CERTIFICATE_ZONE: &[Line] = &[
-    row_price("operating row price"),
-    row_price("regulating-plus-spinning row price"),
-    row_price("regulating row price"),
-    row_price("short-term row price"),
+const CERTIFICATE_ZONE: &Lines = &[
+    (ONE, row_price("operating row price")),
+    (ONE, row_price("regulating-plus-spinning row price")),
+    (ONE, row_price("regulating row price")),
+    (ONE, row_price("short-term row price")),
 ];
 
-const CERTIFICATE_FLOWGATE: &[Line] = &[offer_price("flowgate price")];
+const CERTIFICATE_FLOWGATE: &Lines = &[(ONE, offer_price("flowgate price"))];
 
-const CERTIFICATE_RESOURCE: &[Line] = &[
-    quantity("energy"),
-    quantity("regulating"),
-    quantity("contingency"),
-    quantity("on-line short-term"),
-    quantity("off-line short-term"),
-    row_price("price of energy, regulating and contingency within MAX"),
-    row_price("price of energy and short-term within MAX"),
-    row_price("price of energy less regulating above MIN"),
-    row_price("price of energy within HI"),
-    row_price("price of energy above LO"),
+const CERTIFICATE_RESOURCE: &Lines = &[
+    (ONE, quantity("energy")),
+    (ONE, quantity("regulating")),
+    (ONE, quantity("contingency")),
+    (ONE, quantity("on-line short-term")),
+    (ONE, quantity("off-line short-term")),
+    (ONE, row_price("price of energy, regulating and contingency within MAX")),
+    (ONE, row_price("price of energy and short-term within MAX")),
+    (ONE, row_price("price of energy less regulating above MIN")),
+    (ONE, row_price("price of energy within HI")),
+    (ONE, row_price("price of energy above LO")),
 ];
 
 /// The fields of a case after its counts, in the order of the file.
@@ -262,65 +245,30 @@ pub fn certificate_fields(version: Version, counts: Counts) -> Vec<Field> {
 fn fields(table: &Table, version: Version, counts: Counts) -> Vec<Field> {
     let mut fields = Vec::new();
     for (part, lines) in table {
-        let mut its_fields = Vec::new();
-        for line in lines.iter().filter(|line| line.span.holds(version)) {
-            line.add(*part, counts, &mut its_fields);
-        }
-        for of in part.owners(counts) {
-            fields.extend(its_fields.iter().map(|field| Field { of, ..*field }));
+        let of_one = fields_of_one(*part, lines, version, counts);
+        let owners = part.owners(counts);
+        fields.reserve(of_one.len() * owners.len());
+        for of in owners {
+            fields.extend(of_one.iter().map(|field| Field { of, ..*field }));
         }
     }
     fields
 }
 
-#[cfg(test)]
-mod tests {
-    use super::*;
-    use crate::layout::{file_size, records};
-
-    const LATER: Version = Version::LATER[0];
-    const LATEST: Version = Version::LATER[1];
-
-    /// A file that gains a field between two others, loses one and turns one into
-    /// another width.
-    const HEAD: &[Line] = &[
-        power("kept"),
-        share("gained").since(LATER),
-        power("lost").until(Version::ONE),
-        power("turned").until(LATER),
-        field("turned", Width::I32, -POWER, POWER).since(LATEST),
-        curve("width", "price").since(LATER).until(LATER),
-    ];
-
-    fn of(version: Version) -> Vec<Field> {
-        let counts = Counts { resources: 2, zones: 1, flowgates: 0 };
-        fields(&[(Part::Head, HEAD)], version, counts)
-    }
-
-    #[test]
-    fn a_line_stands_in_its_versions_alone() {
-        let names = |version| of(version).iter().map(|field| field.name).collect::<Vec<_>>();
-        assert_eq!(names(Version::ONE), ["kept", "lost", "turned"]);
-        let with_steps = [&["kept", "gained", "turned"][..], &["width", "price"].repeat(4)];
-        assert_eq!(names(LATER), with_steps.concat());
-        assert_eq!(names(LATEST), ["kept", "gained", "turned"]);
-        let sizes = [Version::ONE, LATER, LATEST].map(|version| file_size(&of(version)));
-        assert_eq!(sizes, [8 + 12, 8 + 10 + 32, 8 + 10]);
-        assert_eq!(of(LATEST)[2].width, Width::I32);
-    }
-
-    #[test]
-    fn a_number_is_found_by_name_wherever_a_version_has_it() {
-        for (version, expected) in
-            [(Version::ONE, [1, 0, 2, 3]), (LATER, [1, 2, 0, 3]), (LATEST, [1, 2, 0, 3])]
-        {
-            let fields = of(version);
-            let numbers: Vec<i64> = (1..).take(fields.len()).collect();
-            let records = records(&fields, &numbers);
-            let names = ["kept", "gained", "lost", "turned"];
-            assert_eq!(names.map(|name| records[0].number(name)), expected, "{version:?}");
-            let prices: Vec<i64> = records[0].all("price").collect();
-            assert_eq!(prices, if version == LATER { vec![5, 7, 9, 11] } else { vec![] });
+/// The fields of one zone, resource or flowgate, whichever it is.
+fn fields_of_one(part: Part, lines: &Lines, version: Version, counts: Counts) -> Vec<Field> {
+    let mut fields = Vec::new();
+    for (_, line) in lines.iter().filter(|(since, _)| *since <= version) {
+        let times = match line.times {
+            Times::Fixed(times) => times,
+            Times::EachResource => counts.resources,
+        };
+        for index in 0..times {
+            fields.push(line.entry.field(part, index, counts));
+            if let Some(price) = line.price {
+                fields.push(price.field(part, index, counts));
+            }
         }
     }
+    fields
 }
