@@ -1,12 +1,15 @@
 -- The elements of a list at which a test passes: a list that turns on a feature, by what it has of all that any may have.
-use mathlib.Core.Bool.{Bool, true, false}
+use mathlib.Core.Bool.{Bool, true, false, cond}
+use mathlib.Core.Path.{◌≡◌, refl, ◌∙◌}
 use mathlib.Core.List.{List, [], ◌∷◌}
 use Prim.Native.Nat.{ℕ, ◌≤◌}
 use native.Mathlib.Omega.{arith}
 use lib.Dec.{T}
-use Rattle.arith.specs.Sums.{total_of, Each, when, kept}
+use lib.IntN.{ℤ, pos, +ℤ_idr}
+use Rattle.arith.specs.Sums.{sum_of, total_of, Each, when, kept}
 use Rattle.arith.proofs.Lists.{each_join, each_split}
 use Rattle.arith.proofs.NaturalSums.{total-append}
+use Rattle.arith.proofs.Sums.{sum-append}
 
 module _ {A : Type 0} where
   -- ---- all of a list, or nothing
@@ -31,6 +34,16 @@ module _ {A : Type 0} where
     of_kept P (x ∷ xs) h =
         let r = each_split P (when (t x) (x ∷ [])) (kept t xs) h in
         ((λ m. (of_when P (t x) (x ∷ []) r.0 m).0), of_kept P xs r.1)
+
+    -- a sum over them is one over all, in which the others count 0
+    pub sum-kept : (f : A → ℤ) (xs : List A) → sum_of f (kept t xs) ≡ sum_of (λ x. cond (t x) (f x) (pos 0)) xs
+    unfolding kept sum_of
+    sum-kept f [] = refl
+    sum-kept f (x ∷ xs) = sum-append f (when (t x) (x ∷ [])) (kept t xs) ∙ rw (one (t x), sum-kept f xs) refl
+      where
+        one : (s : Bool) → sum_of f (when s (x ∷ [])) ≡ cond s (f x) (pos 0)
+        one true = +ℤ_idr (f x)
+        one false = refl
 
     -- a total over them is no larger than one over all
     pub total_kept : (f : A → ℕ) (xs : List A) → total_of f (kept t xs) ≤ total_of f xs

@@ -1,16 +1,18 @@
 -- Products with the table's entries, and a resource's terms in a row.
-use mathlib.Core.Path.{◌≡◌, refl, ◌∙◌}
+use mathlib.Core.Path.{◌≡◌, refl, ap, ◌∙◌}
 use mathlib.Core.Bool.{Bool, true, false, cond}
 use native.Mathlib.Omega.{arith}
 use lib.Dec.{T, eqb}
 use lib.IntN.{ℤ, pos, neg_ℤ, ◌+ℤ◌, ◌*ℤ◌, ◌-ℤ◌, *ℤ-zero, zero-*ℤ, +ℤ_idl, +ℤ_idr, +ℤ_assoc, neg_ℤ-+ℤ, *ℤ_comm}
 use Rattle.arith.specs.Sums.{sum_of}
+use Rattle.arith.proofs.Kept.{sum-kept}
 use Rattle.arith.proofs.Linear.{sorted, count}
 use Rattle.market.specs.Version.{Version, first}
-use Rattle.market.specs.Case.{Resource, Curve, operating, regulating_plus_spinning, regulating, short_term, zoned_curves, curves, has_curve, curve_number}
+use Rattle.market.specs.Case.{Resource, Curve, operating, regulating_plus_spinning, regulating, short_term, all_curves, zoned_curves, curves, has_curve, curve_number}
 use Rattle.market.specs.UpperBounds.{Service, energy, regulation, contingency, on_line_short_term, off_line_short_term, ramping_up, ramping_down, charging, services}
 use Rattle.market.specs.Rows.{Limit, max_with_reserve, max_with_short_term, minimum, high, low, limits, none, one, minus_one, entries, spins, in_reserve, in_limit, is_spinning}
 use Rattle.market.specs.InWords.{reserve_given}
+use Rattle.market.proofs.Versions.{membership}
 
 pub none-* : (a : ℤ) → none *ℤ a ≡ pos 0
 unfolding none
@@ -122,7 +124,8 @@ zone_price r y ramping_down = simp units
 zone_price r y charging = simp (neg-none, units)
 
 pub market_price : (version : Version) (r : Resource) (y : Curve → ℤ) (s : Service) → sum_of (λ k. y k *ℤ in_reserve r k s) (curves version) ≡ reserve_price r y s
-market_price first = zone_price
+unfolding sum_of
+market_price version r y s = ap (sum_of (λ k. y k *ℤ in_reserve r k s)) (membership.curves_kept version) ∙ sum-kept (has_curve version) (λ k. y k *ℤ in_reserve r k s) all_curves ∙ zone_price r y s
 
 abbrev pub limit_price : (Limit → ℤ) → Service → ℤ
 limit_price y energy = y minimum +ℤ y low -ℤ (y max_with_reserve +ℤ y max_with_short_term +ℤ y high)

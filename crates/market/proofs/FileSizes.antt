@@ -1,6 +1,6 @@
 -- How many fields the two files have, and how many bytes they fill.
 use mathlib.Core.Path.{◌≡◌, refl, ◌∙◌, ap}
-use mathlib.Core.List.{List}
+use mathlib.Core.List.{List, [], ◌∷◌, ◌++◌}
 use Prim.Native.Nat.{ℕ, ◌+◌, ◌*◌, ◌≤◌}
 use native.Mathlib.Nat.{le_refl, mul-le-mul}
 use native.Mathlib.Omega.{arith}
@@ -12,7 +12,7 @@ use Rattle.market.specs.Version.{Version, first}
 use Rattle.market.specs.CaseFile.{resource_size, flowgate_size, case_size}
 use Rattle.market.specs.CaseCheck.{most_resources, most_flowgates, CountsWithin, largest_case_size}
 use Rattle.market.specs.Certificate.{entry_size, certificate_size}
-use Rattle.market.specs.Numbers.{Field, field_width, times, head_fields, zone_fields, resource_fields, flowgate_fields, case_fields, certificate_head_fields, entry_fields, certificate_fields}
+use Rattle.market.specs.Numbers.{Field, u32, field_width, times, head_fields, zone_fields, resource_fields, flowgate_fields, case_fields, certificate_head_fields, entry_fields, certificate_fields}
 
 -- ---- the same fields n times
 pub times_length : (n : ℕ) (fs : List Field) → length (times n fs) ≡ n * length fs
@@ -27,12 +27,36 @@ times_width n fs = total-across field_width (λ i. fs) (upto n) ∙ total_same (
 pub case_count : (version : Version) (r z f : ℕ) → length (case_fields version r z f)
     ≡ length (head_fields version) + length zone_fields * z + length (resource_fields version) * r + f * length (flowgate_fields version r)
 unfolding case_fields
-case_count version r z f = simp (length-append, times_length) (omega arith)
+case_count version r z f =
+    let zones = times z zone_fields in
+    let resources = times r (resource_fields version) in
+    let flowgates = times f (flowgate_fields version r) in
+    omega (
+      arith,
+      length-append (head_fields version) (zones ++ (resources ++ flowgates)),
+      length-append zones (resources ++ flowgates),
+      length-append resources flowgates,
+      times_length z zone_fields,
+      times_length r (resource_fields version),
+      times_length f (flowgate_fields version r),
+    )
 
 pub certificate_count : (version : Version) (r z f : ℕ) → length (certificate_fields version r z f)
     ≡ length (certificate_head_fields version) + length zone_fields * z + f + length (entry_fields version) * r
 unfolding certificate_fields
-certificate_count version r z f = simp (length-append, times_length) (omega arith)
+certificate_count version r z f =
+    let zones = times z zone_fields in
+    let flowgates = times f (u32 ∷ []) in
+    let resources = times r (entry_fields version) in
+    omega (
+      arith,
+      length-append (certificate_head_fields version) (zones ++ (flowgates ++ resources)),
+      length-append zones (flowgates ++ resources),
+      length-append flowgates resources,
+      times_length z zone_fields,
+      times_length f (u32 ∷ []),
+      times_length r (entry_fields version),
+    )
 
 -- of version 1
 pub first_case_count : (r z f : ℕ) → length (case_fields first r z f) ≡ 48 + 4 * z + 43 * r + f * (r + 1)

@@ -16,7 +16,7 @@ use Rattle.market.specs.CaseFile.{head_size, resource_size, factor_size, flowgat
 use Rattle.market.specs.Rows.{zone_row}
 use Rattle.market.specs.Certificate.{certificate_head_size, entry_size, zone_prices_place, flowgate_price_place, amounts_place, amount_at, price_at, certificate_as, certificate_of}
 use Rattle.market.specs.Numbers.{Field, u8, u32, i16, i32, field_width, field_at, numbers_at, times, head_fields, zone_fields, resource_fields, flowgate_fields, case_fields, certificate_head_fields, entry_fields, certificate_fields, numbers_of, case_numbers, certificate_numbers}
-use Rattle.market.specs.FieldsInOrder.{FieldsInOrder, zone_figures, resource_figures, flowgate_figures, case_figures, resource_claims, certificate_figures}
+use Rattle.market.specs.FieldsInOrder.{FieldsInOrder, head_figures, zone_figures, resource_figures, flowgate_figures, case_figures, certificate_head_figures, resource_claims, certificate_figures}
 use Rattle.market.proofs.FileSizes.{times_width}
 
 -- ---- lists of fields one behind the other
@@ -114,12 +114,16 @@ unfolding numbers_at field_at case_as
 flowgate_in_order version b f =
     ap (λ (l : List ℤ). i32_at b (flowgate_place version (u8_at b 5) (u8_at b 6) f) ∷ l) (factors_in_order (u8_at b 5) b (flowgate_place version (u8_at b 5) (u8_at b 6) f + flowgate_head_size version))
 
+head_in_order : (version : Version) (b : List ℕ) → numbers_at (head_fields version) b 5 ≡ head_figures (case_as version b)
+unfolding case_as numbers_at field_at across upto
+head_in_order first b = refl
+
 -- as a file of any version
 case_as_in_order : (version : Version) (b : List ℕ) → numbers_at (case_fields version (u8_at b 5) (u8_at b 6) (u8_at b 7)) b 5 ≡ case_figures (case_as version b)
-unfolding case_as numbers_at field_at across upto
+unfolding case_as
 case_as_in_order version b =
     case_parts version (u8_at b 5) (u8_at b 6) (u8_at b 7) b
-    ∙ rw (fun_ext (zone_in_order version b), fun_ext (λ i. resource_in_order version b (resource_place version (u8_at b 6) i)), fun_ext (flowgate_in_order version b))
+    ∙ rw (head_in_order version b, fun_ext (zone_in_order version b), fun_ext (λ i. resource_in_order version b (resource_place version (u8_at b 6) i)), fun_ext (flowgate_in_order version b))
 
 case_in_order : (b : List ℕ) → case_numbers b ≡ case_figures (case_of b)
 unfolding numbers_of
@@ -155,11 +159,19 @@ claims_in_order : (version : Version) (q : List ℕ) (i : ℕ) → numbers_at (e
 unfolding field_at shifted certificate_as price_at amount_at
 claims_in_order first q i = from_start (entry_fields first) q (amounts_place first (u8_at q 6) (u8_at q 7) i)
 
-certificate_as_in_order : (version : Version) (q : List ℕ) → numbers_at (certificate_fields version (u8_at q 5) (u8_at q 6) (u8_at q 7)) q 5 ≡ certificate_figures (certificate_as version q)
+flowgate_prices_in_order : (version : Version) (z f : ℕ) (q : List ℕ) → across (λ g. numbers_at (u32 ∷ []) q (flowgate_price_place version z g)) (upto f) ≡ map (λ g. pos (u32_at q (flowgate_price_place version z g))) (upto f)
+unfolding numbers_at field_at
+flowgate_prices_in_order version z f q = across-one (λ g. pos (u32_at q (flowgate_price_place version z g))) (upto f)
+
+certificate_head_in_order : (version : Version) (q : List ℕ) → numbers_at (certificate_head_fields version) q 5 ≡ certificate_head_figures (certificate_as version q)
 unfolding certificate_as numbers_at field_at amount_at price_at
+certificate_head_in_order first q = refl
+
+certificate_as_in_order : (version : Version) (q : List ℕ) → numbers_at (certificate_fields version (u8_at q 5) (u8_at q 6) (u8_at q 7)) q 5 ≡ certificate_figures (certificate_as version q)
+unfolding certificate_as price_at
 certificate_as_in_order version q =
     certificate_parts version (u8_at q 5) (u8_at q 6) (u8_at q 7) q
-    ∙ rw (fun_ext (zone_prices_in_order version q), fun_ext (claims_in_order version q), across-one (λ f. pos (u32_at q (flowgate_price_place version (u8_at q 6) f))) (upto (u8_at q 7)))
+    ∙ rw (certificate_head_in_order version q, fun_ext (zone_prices_in_order version q), fun_ext (claims_in_order version q), flowgate_prices_in_order version (u8_at q 6) (u8_at q 7) q)
 
 certificate_in_order : (q : List ℕ) → certificate_numbers q ≡ certificate_figures (certificate_of q)
 unfolding numbers_of

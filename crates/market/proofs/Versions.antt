@@ -16,10 +16,16 @@ use Rattle.market.specs.Membership.{Membership}
 
 pub membership : Membership
 unfolding kept
-membership = record { zoned_kept = refl; curves_kept = λ version. refl; services_kept = services_kept; limits_kept = λ version. refl }
+membership = record { zoned_kept = refl; curves_kept = curves_kept; services_kept = services_kept; limits_kept = limits_kept }
   where
     services_kept : (version : Version) → services version ≡ kept (has_service version) all_services
     services_kept first = refl
+
+    curves_kept : (version : Version) → curves version ≡ kept (has_curve version) all_curves
+    curves_kept first = refl
+
+    limits_kept : (version : Version) → limits version ≡ kept (has_limit version) all_limits
+    limits_kept first = refl
 
 -- ---- a statement of each of all, at one of them
 at_any_curve : (P : Curve → Type 0) → Each P all_curves → (k : Curve) → P k

@@ -2,7 +2,7 @@
 use Rattle.std.specs.Prelude.{List, ℕ, ◌+◌, ◌*◌, length}
 use Rattle.market.specs.Bytes.{u8_at, u16_at, u32_at, i16_at, i32_at}
 use Rattle.market.specs.Version.{Version, version_in, ramping, releasing, more}
-use Rattle.market.specs.Case.{Case, Resource, zoned_curves, curves, curve_steps, curve_number, Reserve, reserves, regulating_reserve, contingency_reserve, short_term_reserve}
+use Rattle.market.specs.Case.{Case, Resource, has_curve, zoned, zoned_curves, curves, curve_steps, curve_number, Reserve, reserves, regulating_reserve, contingency_reserve, short_term_reserve}
 
 -- multiplier and minutes, a pair for each reserve: contingency, regulating, short-term
 abbrev pub pair_place : Reserve → ℕ
@@ -131,9 +131,9 @@ case_as version b =
       minutes = λ reserve. u16_at b (pair_place reserve + 2);
       share = λ reserve. u16_at b (24 + share_order reserve * 2);
       requirement = λ reserve. u32_at b (requirements_place version + share_order reserve * 4);
-      curve_width = λ k j. u32_at b (curves_place version + curve_number k * curve_size + j * step_size);
-      curve_price = λ k j. u32_at b (curves_place version + 4 + curve_number k * curve_size + j * step_size);
-      zone_requirement = λ z k. u32_at b (zone_place version z + curve_number k * 4);
+      curve_width = λ k j. more (has_curve version k) (u32_at b (curves_place version + curve_number k * curve_size + j * step_size));
+      curve_price = λ k j. more (has_curve version k) (u32_at b (curves_place version + 4 + curve_number k * curve_size + j * step_size));
+      zone_requirement = λ z k. more (zoned k) (u32_at b (zone_place version z + curve_number k * 4));
       resource = λ i. resource_at version b (resource_place version (u8_at b 6) i);
       flowgate_limit = λ f. i32_at b (flowgate_place version (u8_at b 5) (u8_at b 6) f);
       shift_factor = λ f i. i16_at b (factor_place version (u8_at b 5) (u8_at b 6) f i);

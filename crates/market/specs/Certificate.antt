@@ -3,7 +3,7 @@
 use Rattle.std.specs.Prelude.{List, ℕ, ◌+◌, ◌*◌, length, ℤ, pos, neg_ℤ}
 use Rattle.market.specs.Bytes.{u8_at, u32_at, i32_at}
 use Rattle.market.specs.Version.{Version, version_in, more}
-use Rattle.market.specs.Case.{zoned_curves, curves, curve_number}
+use Rattle.market.specs.Case.{has_curve, zoned, zoned_curves, curves, curve_number}
 use Rattle.market.specs.UpperBounds.{Service, services, energy, regulation, contingency, on_line_short_term, off_line_short_term, ramping_up, ramping_down, charging, has_service, Quantity, cleared_quantity, provided_quantity, Schedule}
 use Rattle.market.specs.Rows.{Row, balance_row, market_row, zone_row, flowgate_row, limit_row, Limit, limits, max_with_reserve, max_with_short_term, minimum, high, low, Sense, equal, at_least}
 
@@ -81,13 +81,13 @@ limit_place version low = length (services version) * 4 + 16
 
 -- 0 of what the version has none of
 unfoldable pub amount_at : Version → List ℕ → Quantity → ℕ
-amount_at version q (cleared_quantity k) = u32_at q (8 + curve_number k * 4)
+amount_at version q (cleared_quantity k) = more (has_curve version k) (u32_at q (8 + curve_number k * 4))
 amount_at version q (provided_quantity i s) = more (has_service version s) (u32_at q (amounts_place version (u8_at q 6) (u8_at q 7) i + service_place s))
 
 unfoldable pub price_at : Version → List ℕ → Row → ℤ
 price_at version q balance_row = i32_at q (balance_price_place version)
-price_at version q (market_row k) = pos (u32_at q (market_prices_place version + curve_number k * 4))
-price_at version q (zone_row z k) = pos (u32_at q (zone_prices_place version z + curve_number k * 4))
+price_at version q (market_row k) = pos (more (has_curve version k) (u32_at q (market_prices_place version + curve_number k * 4)))
+price_at version q (zone_row z k) = pos (more (zoned k) (u32_at q (zone_prices_place version z + curve_number k * 4)))
 price_at version q (flowgate_row f) = pos (u32_at q (flowgate_price_place version (u8_at q 6) f))
 price_at version q (limit_row i l) = pos (u32_at q (amounts_place version (u8_at q 6) (u8_at q 7) i + limit_place version l))
 

@@ -55,10 +55,14 @@ case_figures c =
 abbrev pub resource_claims : Certificate → ℕ → List ℤ
 resource_claims d i = map (λ s. pos (d.amount (provided_quantity i s))) (services d.version) ++ map (λ l. d.price (limit_row i l)) (limits d.version)
 
+abbrev pub certificate_head_figures : Certificate → List ℤ
+certificate_head_figures d =
+    pos d.resources ∷ pos d.zones ∷ pos d.flowgates
+    ∷ map (λ k. pos (d.amount (cleared_quantity k))) (curves d.version) ++ (d.price balance_row ∷ map (λ k. d.price (market_row k)) (curves d.version))
+
 abbrev pub certificate_figures : Certificate → List ℤ
 certificate_figures d =
-    (pos d.resources ∷ pos d.zones ∷ pos d.flowgates
-    ∷ map (λ k. pos (d.amount (cleared_quantity k))) (curves d.version) ++ (d.price balance_row ∷ map (λ k. d.price (market_row k)) (curves d.version)))
+    certificate_head_figures d
     ++ (across (λ z. map (λ k. d.price (zone_row z k)) zoned_curves) (upto d.zones)
     ++ (map (λ f. d.price (flowgate_row f)) (upto d.flowgates) ++ across (resource_claims d) (upto d.resources)))
 
