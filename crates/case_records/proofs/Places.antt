@@ -6,7 +6,7 @@ use native.Mathlib.Omega.{arith}
 use native.Mathlib.Nat.{mul-le-mul_right}
 use Rattle.market.specs.Bytes.{u8_at}
 use Rattle.market.specs.Version.{version_in}
-use Rattle.market.specs.CaseFile.{case_of, head_size, flowgate_size, case_as}
+use Rattle.market.specs.CaseFile.{resource_size, case_of, head_size, flowgate_size, case_as}
 use Rattle.market.specs.Outcome.{Valid}
 use Rattle.wire.specs.Within.{Within}
 use Rattle.wire.proofs.WholeCase.{valid_case}
@@ -20,7 +20,7 @@ module _ {b : List ℕ} {r z f : ℕ} (whole : CaseBytes b r z f) where
   zone_in y h = omega arith
 
   pub resource_in : (i : ℕ) → i < r → ResourceIn b z i
-  resource_in i h = (whole.zones, omega arith)
+  resource_in i h = (whole.zones, omega (arith, mul-le-mul_right (resource_size (version_in b)) h))
 
   pub flowgate_in : (g : ℕ) → g < f → FlowgateIn b r z g
   flowgate_in g h = record { resources = whole.resources; zones = whole.zones; within = omega (arith, mul-le-mul_right (flowgate_size (version_in b) r) h) }

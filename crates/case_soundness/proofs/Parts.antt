@@ -30,9 +30,18 @@ module _ (b : List ℕ) (at : ℕ) where
   abbrev limited : ℕ → ℕ
   limited offset = at + behind_minimum (version_in b) offset
 
-  pub powers_sound : SoundPair (u32_at b (flagged 10)) (u32_at b (flagged 14)) → SoundPair (u32_at b (flagged 18)) (u32_at b (flagged 22)) → SoundPair (resource_in b at).emergency_min (resource_in b at).emergency_max → all (number_at_most 2000000 b (limited 42)) (upto 4) ≡ true → SoundPowers (resource_in b at)
+  -- a pair of neighbours, whose second stands four bytes on
+  next_flagged : (offset : ℕ) → at + (behind_flags (version_in b) offset + 4) ≡ flagged (offset + 4)
+  next_flagged offset = omega arith
+
+  abbrev neighbours : ℕ → Type 0
+  neighbours offset = SoundPair (u32_at b (flagged offset)) (u32_at b (at + (behind_flags (version_in b) offset + 4)))
+
+  pub powers_sound : neighbours 10 → neighbours 18 → SoundPair (resource_in b at).emergency_min (resource_in b at).emergency_max → all (number_at_most 2000000 b (limited 42)) (upto 4) ≡ true → SoundPowers (resource_in b at)
   unfolding all resource_at other_powers_of pairs_ordered
-  powers_sound economic regulating emergency others =
+  powers_sound first second emergency others =
+      let economic = rw (next_flagged 10) at first in
+      let regulating = rw (next_flagged 18) at second in
       record {
         in_range = rw (economic.low_in_range, economic.high_in_range, regulating.low_in_range, regulating.high_in_range, emergency.low_in_range, emergency.high_in_range) (sym (starts_run b at 2000000) ∙ others);
         ordered = rw (economic.ordered, regulating.ordered) emergency.ordered;

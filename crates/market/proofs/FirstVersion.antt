@@ -2,7 +2,7 @@
 use mathlib.Core.Path.{◌≡◌, refl, ap}
 use mathlib.Core.List.{◌∷◌, ◌++◌, map}
 use Rattle.arith.specs.Sums.{upto, across}
-use Rattle.market.specs.Version.{Version, first}
+use Rattle.market.specs.Version.{Version, first, version_of}
 use Rattle.market.specs.Case.{Case, curves}
 use Rattle.market.specs.UpperBounds.{services, cleared_quantity, provided_quantity, quantities}
 use Rattle.market.specs.Rows.{balance_row, market_row, limit_row, limits, zone_rows, flowgate_rows, rows}
@@ -21,7 +21,7 @@ first_lists c e =
     }
 
 pub first_version : FirstVersion
-unfolding case_fields certificate_fields
+unfolding version_of case_fields certificate_fields
 first_version =
     record {
       version_is = refl;

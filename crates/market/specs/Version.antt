@@ -11,7 +11,7 @@ abbrev pub known : ℕ → Bool
 known v = eqb v 1
 
 -- of a version's number; one that is not known is read as the nearest
-abbrev pub version_of : ℕ → Version
+unfoldable pub version_of : ℕ → Version
 version_of v = first
 
 abbrev pub known_as : Bool → ℕ → Result Version UnknownVersion

@@ -2,14 +2,14 @@
 // and the places in them.
 ghost use Rattle.std.specs.Prelude.{◌≡◌, ◌+◌, ◌≤◌, length};
 ghost use Rattle.market.specs.Version.{known_version, version_of, ramping, storing, releasing};
-ghost use Rattle.market.specs.Case.{curves};
+ghost use Rattle.market.specs.Case.{has_curve, curves};
 ghost use Rattle.market.specs.CaseFile.{requirements_place, curves_place, head_size, behind_flags, behind_minimum, resource_size, flowgate_head_size};
 ghost use Rattle.market.specs.UpperBounds.{services};
 ghost use Rattle.market.specs.Rows.{limits, system_row_count, resource_row_count};
 ghost use Rattle.market.specs.Cost.{resource_priced_count, curve_priced_count};
 ghost use Rattle.market.specs.Certificate.{balance_price_place, market_prices_place, certificate_head_size, entry_size};
 
-use super::{CURVE_SIZE, CURVE_STEPS, ENERGY_STEPS, RESERVES, ZONED_CURVES};
+use super::{CURVE_SIZE, CURVE_STEPS, Curve, ENERGY_STEPS, RESERVES, ZONED_CURVES};
 
 // Version 1 is document 01's. A file's fifth byte is its version.
 #[derive(Clone, Copy, Debug, PartialEq, Eq, Hash)]
@@ -37,6 +37,7 @@ impl TryFrom<u8> for Version {
 // ---- what a version has, beside what each has
 impl Version {
     // Of a byte that is no version's, the nearest.
+    #[tactic(auto, unfolding(crate::specs::Version::version_of))]
     pub fn nearest(byte: u8) -> Version
         ensures { result ≡ version_of byte }
     {
@@ -51,6 +52,18 @@ impl Version {
     {
         match self {
             Version::First => false,
+        }
+    }
+
+    // The demand curve.
+    pub fn has_curve(self, curve: Curve) -> bool
+        ensures { result ≡ has_curve self curve }
+    {
+        match curve {
+            Curve::Operating => true,
+            Curve::RegulatingPlusSpinning => true,
+            Curve::Regulating => true,
+            Curve::ShortTerm => true,
         }
     }
 

@@ -61,15 +61,18 @@ impl<'a> CaseHead<'a> {
         }
     }
 
-    // Step j of a demand curve.
-    #[tactic(auto, using(market::proofs::CurveNumbers::number_below_4), unfolding(market::specs::CaseFile::case_as))]
+    // Step j of a demand curve, 0 where the version has none.
+    #[tactic(auto, using(market::proofs::CurveNumbers::number_within), unfolding(market::specs::CaseFile::case_as))]
     pub fn step(&self, curve: Curve, j: usize) -> FileStep
         requires { j < curve_steps }
         ensures width { result.width ≡ (head_of self.now).curve_width curve j }
         ensures price { result.price ≡ (head_of self.now).curve_price curve j }
     {
-        let curves = super::version_at(self.bytes).curves_place();
-        let at = curves + curve.number() * CURVE_SIZE + j * STEP_SIZE;
+        let version = super::version_at(self.bytes);
+        if !version.has_curve(curve) {
+            return FileStep { width: 0, price: 0 };
+        }
+        let at = version.curves_place() + curve.number() * CURVE_SIZE + j * STEP_SIZE;
         FileStep {
             width: super::u32_at(self.bytes, at),
             price: super::u32_at(self.bytes, at + 4),
