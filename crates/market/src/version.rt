@@ -36,14 +36,12 @@ impl TryFrom<u8> for Version {
 
 // ---- what a version has, beside what each has
 impl Version {
-    // Of a byte that is no version's, the nearest.
+    // Of a file's fifth byte; one that is no version's is read as the nearest.
     #[tactic(auto, unfolding(crate::specs::Version::version_of))]
     pub fn nearest(byte: u8) -> Version
         ensures { result ≡ version_of byte }
     {
-        match byte {
-            _ => Version::First,
-        }
+        Version::try_from(byte).unwrap_or(Version::First)
     }
 
     // Up and down ramp capability.
