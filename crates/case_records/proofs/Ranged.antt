@@ -11,8 +11,8 @@ use Rattle.market.specs.declared.Reserve.{Reserve}
 use Rattle.market.specs.CaseFile.{case_of}
 use Rattle.market.specs.Records.{offer_step_of, offer_steps_of, curve_step_of, curve_steps_of, state_of, output_limits_of, ramps_of, other_powers_of, reserve_offers_of, record_of, reserve_terms_of, zone_requirements_of}
 use Rattle.market.specs.Outcome.{Valid}
-use Rattle.market.proofs.Versions.{all_four_curves}
-use Rattle.market.proofs.Ranges.{CaseRanges, ResourceRanges, ReserveRanges, valid_ranges}
+use Rattle.market.proofs.Absent.{width_to, curve_price_to, requirement_to}
+use Rattle.market.proofs.Ranges.{ResourceRanges, ReserveRanges, valid_ranges}
 use Rattle.case_records.specs.Ranged.{UpTo, offer_step, curve_step, RangedLimits, RangedRamps, RangedOtherPowers, RangedOffers, RangedSteps, Ranged, RangedTerms, RangedCurve, RangedZone}
 
 up_to : {n most : ℕ} → n ≤ most → UpTo (pos n) most
@@ -109,24 +109,6 @@ terms_ranged h =
       requirement = up_to h.requirement_to;
     }
 
-pub curve_ranged : {c : Case} → CaseRanges c → (k : Curve) → RangedCurve (curve_steps_of c k)
-unfolding curve_step_of
-curve_ranged {c} h k =
-    record {
-      width = λ j l. rw (curve_step_is c k j l) (up_to (h.curve_width k (all_four_curves c.version k) j l));
-      price = λ j l. rw (curve_step_is c k j l) (up_to (h.curve_price k (all_four_curves c.version k) j l));
-    }
-
-pub zone_ranged : {c : Case} → CaseRanges c → (z : ℕ) → z < c.zones → RangedZone (zone_requirements_of c z)
-unfolding zone_requirements_of
-zone_ranged {c} h z l =
-    record {
-      operating = up_to (h.zone_requirement z operating l tt);
-      regulating_plus_spinning = up_to (h.zone_requirement z regulating_plus_spinning l tt);
-      regulating = up_to (h.zone_requirement z regulating l tt);
-      short_term = up_to (h.zone_requirement z short_term l tt);
-    }
-
 -- ---- of the bytes of a valid case
 module _ (b : List ℕ) (v : Valid b) where
   pub valid_resource : (i : ℕ) → i < (case_of b).resources → Ranged (record_of ((case_of b).resource i))
@@ -139,7 +121,19 @@ module _ (b : List ℕ) (v : Valid b) where
   valid_terms p = terms_ranged ((valid_ranges b v).reserve p)
 
   pub valid_curve : (k : Curve) → RangedCurve (curve_steps_of (case_of b) k)
-  valid_curve k = curve_ranged (valid_ranges b v) k
+  unfolding curve_step_of
+  valid_curve k =
+      record {
+        width = λ j l. rw (curve_step_is (case_of b) k j l) (up_to (width_to b v k j l));
+        price = λ j l. rw (curve_step_is (case_of b) k j l) (up_to (curve_price_to b v k j l));
+      }
 
   pub valid_zone : (z : ℕ) → z < (case_of b).zones → RangedZone (zone_requirements_of (case_of b) z)
-  valid_zone z l = zone_ranged (valid_ranges b v) z l
+  unfolding zone_requirements_of
+  valid_zone z l =
+      record {
+        operating = up_to (requirement_to b v z l operating);
+        regulating_plus_spinning = up_to (requirement_to b v z l regulating_plus_spinning);
+        regulating = up_to (requirement_to b v z l regulating);
+        short_term = up_to (requirement_to b v z l short_term);
+      }

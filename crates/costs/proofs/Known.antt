@@ -17,7 +17,7 @@ use Rattle.market.specs.Certificate.{certificate_of}
 use Rattle.market.specs.Records.{record_of, offer_steps_of, amounts_of}
 use Rattle.market.proofs.ScheduleSizes.{amount_of}
 use Rattle.case_records.specs.Ranged.{UpTo, Ranged, RangedSteps, offer_step}
-use Rattle.case_records.proofs.Ranged.{valid_resource, valid_steps, curve_ranged}
+use Rattle.case_records.proofs.Ranged.{valid_resource, valid_steps, valid_curve}
 use Rattle.units.specs.Room.{SumRoom}
 use Rattle.prices.specs.Standing.{Standing}
 use Rattle.prices.proofs.Known.{case_ranges, resource_below, amount_small, amounts_small}
@@ -72,7 +72,7 @@ module _ {b q : List ℕ} {r z f : ℕ} (s : Standing b q r z f) where
   cleared_known k = record { natural = refl; at_most = amount_of c (case_ranges s.prices) x s.bounded (cleared_quantity k) (all_four_curves c.version k) }
 
   pub curve_size : (k : Curve) → nat_abs (curve_value c x k) ≤ 12800000000000
-  curve_size k = rw (← (curve_value_is c x k)) (steps_size (curve_ranges (curve_ranged (case_ranges s.prices) k)) (omega arith) (omega arith) (x (cleared_quantity k)) 4 (omega arith))
+  curve_size k = rw (← (curve_value_is c x k)) (steps_size (curve_ranges (valid_curve b s.prices.valid k)) (omega arith) (omega arith) (x (cleared_quantity k)) 4 (omega arith))
 
   -- of two and of three
   pub two_curves_size : nat_abs (curve_value c x regulating +ℤ curve_value c x short_term) ≤ 25600000000000

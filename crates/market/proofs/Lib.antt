@@ -20,6 +20,7 @@ pub mod EnergyBounds
 pub mod QuantityParts
 pub mod CaseLinearProgramme
 pub mod Lengths
+pub mod Absent
 pub mod Accepted
 pub mod Shown
 pub mod Families
