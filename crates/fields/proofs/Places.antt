@@ -1,20 +1,22 @@
 -- The field at each place of the two files, part by part as the code goes through them.
-use mathlib.Core.Path.{◌≡◌, refl, ◌∙◌, ap}
+use mathlib.Core.Path.{◌≡◌, refl, sym, ◌∙◌, ap}
 use mathlib.Core.List.{List, [], ◌∷◌, ◌++◌}
 use Prim.Native.Nat.{ℕ, zero, suc, ◌+◌, ◌*◌, ◌-◌, ◌%◌, ◌<◌, ◌≤◌}
 use native.Mathlib.Nat.{mod-lt}
 use native.Mathlib.Omega.{arith}
 use lib.ListN.{length, get_or, replicate, length-append, length-replicate}
-use Rattle.std.proofs.lemmas.List.{get_or_append_left, get_or-append_right}
+use Rattle.std.proofs.lemmas.List.{get_or_append_left, get_or-append_right, get_or-replicate}
+use Rattle.std.proofs.Math.Seq.{get_or-append_seam}
 use Rattle.arith.specs.Sums.{Each, upto}
 use Rattle.arith.proofs.Lists.{each_join, each-across, each-any, length-upto}
 use Rattle.market.specs.declared.Version.{Version}
+use Rattle.market.specs.Case.{curves}
 use Rattle.market.specs.UpperBounds.{services}
 use Rattle.market.specs.Rows.{limits}
-use Rattle.market.specs.Numbers.{Field, u8, u32, i16, i32, times, head_fields, resource_fields, flowgate_fields, case_fields, zone_fields, certificate_head_fields, entry_fields, certificate_fields}
+use Rattle.market.specs.Numbers.{Field, u8, u32, i16, i32, times, head_fields, resource_fields, flowgate_fields, case_fields, zone_fields, curve_fields, certificate_head_fields, entry_fields, certificate_fields}
 use Rattle.fields.specs.Layout.{head_numbers, zone_numbers, resource_numbers, certificate_head_numbers, zones_end, resources_end}
 use Rattle.market.proofs.FileSizes.{times_length, case_count}
-use Rattle.fields.proofs.Entries.{entry_repeated, entry_each}
+use Rattle.fields.proofs.Entries.{entry_repeated, entry_each, entry_beside}
 
 -- ---- the same fields n times
 times_entry : (n : ℕ) (fs : List Field) (k : ℕ) → k < n * length fs → get_or (times n fs) k u8 ≡ get_or fs (k % length fs) u8
@@ -108,6 +110,31 @@ module _ (version : Version) (r z f k : ℕ) where
     case_factor p = of_flowgate ∙ factor_entry version r ((k - resources_end version r z) % (r + 1)) p (mod-lt (k - resources_end version r z) (omega arith))
 
 pub ruleset case_places = (case_head, case_zone, case_resource, case_limit, case_factor)
+
+-- ---- a certificate's head: counts, then u32 on both sides of the price of row 1
+module _ (version : Version) where
+  abbrev many : ℕ
+  many = length (curves version)
+
+  abbrev past_counts : List Field
+  past_counts = curve_fields version ++ (i32 ∷ curve_fields version)
+
+  pub certificate_head_long : certificate_head_numbers version ≡ 4 + 2 * many
+  certificate_head_long = omega (arith, length-append (curve_fields version) (i32 ∷ curve_fields version), length-replicate many u32)
+
+  module _ (k : ℕ) where
+    pub count_entry : k < 3 → u8 ≡ get_or (certificate_head_fields version) k u8
+    count_entry h = sym (get_or_append_left (replicate 3 u8) past_counts u8 k h ∙ get_or-replicate 3 k u8 u8 h)
+
+    pub balance_entry : k ≡ 3 + many → i32 ≡ get_or (certificate_head_fields version) k u8
+    balance_entry e =
+        let place : k - 3 ≡ length (curve_fields version) = omega (arith, length-replicate many u32) in
+        sym (get_or-append_right (replicate 3 u8) past_counts 3 k u8 refl (omega arith) ∙ ap (λ (j : ℕ). get_or past_counts j u8) place ∙ get_or-append_seam (curve_fields version) i32 (curve_fields version) u8)
+
+    pub curve_entry : 3 ≤ k → (k ≡ 3 + many → ⊥) → k < certificate_head_numbers version → u32 ≡ get_or (certificate_head_fields version) k u8
+    curve_entry h other l = sym (get_or-append_right (replicate 3 u8) past_counts 3 k u8 refl h ∙ entry_beside u8 u32 i32 many many (k - 3) (omega (arith, certificate_head_long)) (λ e. other (omega arith)))
+
+pub ruleset certificate_head_places = (count_entry, balance_entry, curve_entry)
 
 -- ---- a certificate
 abbrev is_u32 : Field → Type 0
