@@ -5,8 +5,8 @@ use Prim.Native.Nat.{ℕ, zero, suc, ◌+◌, ◌*◌, ◌-◌, ◌%◌, ◌<◌
 use native.Mathlib.Nat.{not-suc-le-zero, le_of_suc-le-suc, mod-eq_of_lt, add-mod_left}
 use native.Mathlib.Decide.{dec_lt}
 use native.Mathlib.Omega.{arith}
-use lib.ListN.{length, get_or, replicate}
-use Rattle.std.proofs.lemmas.List.{get_or_append_left, get_or-append_right, get_or-replicate}
+use lib.ListN.{length, get_or}
+use Rattle.std.proofs.lemmas.List.{get_or_append_left, get_or-append_right}
 use Rattle.arith.specs.Sums.{Each, across}
 
 module _ {A : Type 0} (d : A) where
@@ -31,9 +31,9 @@ module _ {A : Type 0} (d : A) where
   entry_each P (x ∷ xs) e zero h = e.0
   entry_each P (x ∷ xs) e (suc k) h = entry_each P xs e.1 k (le_of_suc-le-suc h)
 
-  -- beside the one element y, as many x before it as behind it
-  pub entry_beside : (x y : A) (n m k : ℕ) → k < n + (1 + m) → (k ≡ n → ⊥) → get_or (replicate n x ++ (y ∷ replicate m x)) k d ≡ x
-  entry_beside x y zero m zero l other = absurd (other refl)
-  entry_beside x y zero m (suc k) l other = get_or-replicate m k x d (omega arith)
-  entry_beside x y (suc n) m zero l other = refl
-  entry_beside x y (suc n) m (suc k) l other = entry_beside x y n m k (omega arith) (λ e. other (ap suc e))
+  -- and of all others, where one stands between them
+  pub entry_beside : (P : A → Type 0) (y : A) (xs ys : List A) → Each P xs → Each P ys → (k : ℕ) → k < length (xs ++ (y ∷ ys)) → (k ≡ length xs → ⊥) → P (get_or (xs ++ (y ∷ ys)) k d)
+  entry_beside P y [] ys before behind zero h other = absurd (other refl)
+  entry_beside P y [] ys before behind (suc k) h other = entry_each P ys behind k (le_of_suc-le-suc h)
+  entry_beside P y (x ∷ xs) ys before behind zero h other = before.0
+  entry_beside P y (x ∷ xs) ys before behind (suc k) h other = entry_beside P y xs ys before.1 behind k (le_of_suc-le-suc h) (λ e. other (ap suc e))

@@ -5,7 +5,7 @@
 ghost use Rattle.std.specs.Prelude.{◌≡◌, ℕ, ◌<◌, ◌≤◌, length, get_or};
 ghost use Rattle.market.specs.Bytes.{within_ℤ};
 ghost use Rattle.market.specs.CaseCheck.{most_resources, most_zones, CountsWithin};
-ghost use Rattle.market.specs.Numbers.{u8, field_width, field_low, field_high, field_at, head_fields, resource_fields, case_fields, certificate_head_fields, certificate_fields};
+ghost use Rattle.market.specs.Numbers.{u8, field_width, field_low, field_high, field_at, head_fields, resource_fields, case_fields, certificate_fields};
 ghost use Rattle.wire.specs.Within.{Within};
 ghost use Rattle.fields.specs.Layout.{field_of, fields_of, head_numbers, resource_numbers, certificate_head_numbers, entry_numbers};
 
@@ -185,23 +185,6 @@ fn resource_field(version: Version, k: usize) -> Field
     }
 }
 
-#[tactic(auto, using(crate::proofs::Places::certificate_head_places))]
-fn certificate_head_field(version: Version, k: usize) -> Field
-    requires { k < certificate_head_numbers version }
-    ensures { field_of result ≡ get_or (certificate_head_fields version) k u8 }
-{
-    // resources, zones, flowgates
-    if k < 3 {
-        return Field::U8;
-    }
-    // the price of row 1, between the cleared quantities and the prices of the reserve rows
-    if k == 3 + version.curves() {
-        Field::I32
-    } else {
-        Field::U32
-    }
-}
-
 // ---- the k-th number's field, for any number of flowgates
 #[tactic(auto, using(crate::proofs::Places::case_places, crate::proofs::Tables::resource_long))]
 fn case_field(n: Counts, k: usize) -> Field
@@ -232,10 +215,15 @@ fn case_field(n: Counts, k: usize) -> Field
 fn certificate_field(n: Counts, k: usize) -> Field
     ensures { (r z f : ℕ) → k < length (certificate_fields n.version r z f) → field_of result ≡ get_or (certificate_fields n.version r z f) k u8 }
 {
-    if k < certificate_head_numbers(n.version) {
-        return certificate_head_field(n.version, k);
+    // resources, zones, flowgates
+    if k < 3 {
+        return Field::U8;
     }
-    Field::U32
+    // all later ones but the price of row 1, which stands between the cleared quantities and the prices of the reserve rows
+    if k != 3 + n.version.curves() {
+        return Field::U32;
+    }
+    Field::I32
 }
 
 // A trait with a type for each file says more and no plainer: each promise, two bodies of it, and both files' grounds besides. So it is
