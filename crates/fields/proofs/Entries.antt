@@ -30,3 +30,10 @@ module _ {A : Type 0} (d : A) where
   entry_each P [] e k h = absurd (not-suc-le-zero h)
   entry_each P (x ∷ xs) e zero h = e.0
   entry_each P (x ∷ xs) e (suc k) h = entry_each P xs e.1 k (le_of_suc-le-suc h)
+
+  -- and of all others, where one stands between them
+  pub entry_beside : (P : A → Type 0) (y : A) (xs ys : List A) → Each P xs → Each P ys → (k : ℕ) → k < length (xs ++ (y ∷ ys)) → (k ≡ length xs → ⊥) → P (get_or (xs ++ (y ∷ ys)) k d)
+  entry_beside P y [] ys before behind zero h other = absurd (other refl)
+  entry_beside P y [] ys before behind (suc k) h other = entry_each P ys behind k (le_of_suc-le-suc h)
+  entry_beside P y (x ∷ xs) ys before behind zero h other = before.0
+  entry_beside P y (x ∷ xs) ys before behind (suc k) h other = entry_beside P y xs ys before.1 behind k (le_of_suc-le-suc h) (λ e. other (ap suc e))

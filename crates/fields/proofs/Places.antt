@@ -5,16 +5,18 @@ use Prim.Native.Nat.{ℕ, zero, suc, ◌+◌, ◌*◌, ◌-◌, ◌%◌, ◌<◌
 use native.Mathlib.Nat.{mod-lt}
 use native.Mathlib.Omega.{arith}
 use lib.ListN.{length, get_or, replicate, length-append, length-replicate}
-use Rattle.std.proofs.lemmas.List.{get_or_append_left, get_or-append_right}
+use Rattle.std.proofs.lemmas.List.{append_assoc, get_or_append_left, get_or-append_right, get_or-replicate}
+use Rattle.std.proofs.Math.Seq.{get_or-append_seam}
 use Rattle.arith.specs.Sums.{Each, upto}
 use Rattle.arith.proofs.Lists.{each_join, each-across, each-any, length-upto}
 use Rattle.market.specs.declared.Version.{Version}
+use Rattle.market.specs.Case.{curves}
 use Rattle.market.specs.UpperBounds.{services}
 use Rattle.market.specs.Rows.{limits}
-use Rattle.market.specs.Numbers.{Field, u8, u32, i16, i32, times, head_fields, resource_fields, flowgate_fields, case_fields, zone_fields, certificate_head_fields, entry_fields, certificate_fields}
+use Rattle.market.specs.Numbers.{Field, u8, u32, i16, i32, times, head_fields, resource_fields, flowgate_fields, case_fields, zone_fields, curve_fields, entry_fields, certificate_fields}
 use Rattle.fields.specs.Layout.{head_numbers, zone_numbers, resource_numbers, certificate_head_numbers, zones_end, resources_end}
 use Rattle.market.proofs.FileSizes.{times_length, case_count}
-use Rattle.fields.proofs.Entries.{entry_repeated, entry_each}
+use Rattle.fields.proofs.Entries.{entry_repeated, entry_each, entry_beside}
 
 -- ---- the same fields n times
 times_entry : (n : ℕ) (fs : List Field) (k : ℕ) → k < n * length fs → get_or (times n fs) k u8 ≡ get_or fs (k % length fs) u8
@@ -109,25 +111,49 @@ module _ (version : Version) (r z f k : ℕ) where
 
 pub ruleset case_places = (case_head, case_zone, case_resource, case_limit, case_factor)
 
--- ---- a certificate
+-- ---- a certificate: counts, then u32 on both sides of the price of row 1
 abbrev is_u32 : Field → Type 0
 is_u32 x = x ≡ u32
 
-module _ (version : Version) (r z f k : ℕ) where
-  abbrev certificate_rest : List Field
-  certificate_rest = times z zone_fields ++ (times f (u32 ∷ []) ++ times r (entry_fields version))
+module _ (version : Version) where
+  curves_long : length (curve_fields version) ≡ length (curves version)
+  curves_long = length-replicate (length (curves version)) u32
 
-  rest_each : Each is_u32 certificate_rest
-  rest_each =
-      each_join is_u32 (times z zone_fields) (times f (u32 ∷ []) ++ times r (entry_fields version)) (times_each is_u32 z zone_fields (same_each zone_numbers u32))
-      (each_join is_u32 (times f (u32 ∷ [])) (times r (entry_fields version)) (times_each is_u32 f (u32 ∷ []) (refl, tt)) (times_each is_u32 r (entry_fields version) (same_each (length (services version) + length (limits version)) u32)))
+  pub certificate_head_long : certificate_head_numbers version ≡ 4 + 2 * length (curves version)
+  certificate_head_long = omega (arith, length-append (curve_fields version) (i32 ∷ curve_fields version), curves_long)
 
-  pub certificate_head : k < certificate_head_numbers version → get_or (certificate_fields version r z f) k u8 ≡ get_or (certificate_head_fields version) k u8
-  unfolding certificate_fields
-  certificate_head h = get_or_append_left (certificate_head_fields version) certificate_rest u8 k h
+  module _ (r z f k : ℕ) where
+    abbrev behind_zones : List Field
+    behind_zones = times f (u32 ∷ []) ++ times r (entry_fields version)
 
-  pub certificate_rest_lem : certificate_head_numbers version ≤ k → k < length (certificate_fields version r z f) → get_or (certificate_fields version r z f) k u8 ≡ u32
-  unfolding certificate_fields
-  certificate_rest_lem h l = get_or-append_right (certificate_head_fields version) certificate_rest (certificate_head_numbers version) k u8 refl h ∙ entry_each u8 is_u32 certificate_rest rest_each (k - certificate_head_numbers version) (omega (arith, length-append (certificate_head_fields version) certificate_rest))
+    -- behind the price of row 1
+    abbrev behind : List Field
+    behind = curve_fields version ++ (times z zone_fields ++ behind_zones)
 
-pub ruleset certificate_places = (certificate_head, certificate_rest_lem)
+    behind_each : Each is_u32 behind
+    behind_each =
+        each_join is_u32 (curve_fields version) (times z zone_fields ++ behind_zones) (same_each (length (curves version)) u32)
+        (each_join is_u32 (times z zone_fields) behind_zones (times_each is_u32 z zone_fields (same_each zone_numbers u32))
+        (each_join is_u32 (times f (u32 ∷ [])) (times r (entry_fields version)) (times_each is_u32 f (u32 ∷ []) (refl, tt)) (times_each is_u32 r (entry_fields version) (same_each (length (services version) + length (limits version)) u32))))
+
+    past_counts : certificate_fields version r z f ≡ replicate 3 u8 ++ (curve_fields version ++ (i32 ∷ behind))
+    unfolding certificate_fields
+    past_counts = ap (λ (fs : List Field). u8 ∷ u8 ∷ u8 ∷ fs) (append_assoc (curve_fields version) (i32 ∷ curve_fields version) (times z zone_fields ++ behind_zones))
+
+    pub certificate_counts : k < 3 → get_or (certificate_fields version r z f) k u8 ≡ u8
+    certificate_counts h = rw past_counts (get_or_append_left (replicate 3 u8) (curve_fields version ++ (i32 ∷ behind)) u8 k h ∙ get_or-replicate 3 k u8 u8 h)
+
+    from_curves : 3 ≤ k → get_or (certificate_fields version r z f) k u8 ≡ get_or (curve_fields version ++ (i32 ∷ behind)) (k - 3) u8
+    from_curves h = rw past_counts (get_or-append_right (replicate 3 u8) (curve_fields version ++ (i32 ∷ behind)) 3 k u8 refl h)
+
+    pub certificate_balance : k ≡ 3 + length (curves version) → get_or (certificate_fields version r z f) k u8 ≡ i32
+    certificate_balance e =
+        let place : k - 3 ≡ length (curve_fields version) = omega (arith, curves_long) in
+        from_curves (omega arith) ∙ ap (λ (j : ℕ). get_or (curve_fields version ++ (i32 ∷ behind)) j u8) place ∙ get_or-append_seam (curve_fields version) i32 behind u8
+
+    pub certificate_others : 3 ≤ k → (k ≡ 3 + length (curves version) → ⊥) → k < length (certificate_fields version r z f) → get_or (certificate_fields version r z f) k u8 ≡ u32
+    certificate_others h other l =
+        let within : k - 3 < length (curve_fields version ++ (i32 ∷ behind)) = omega (arith, ap (λ (fs : List Field). length fs) past_counts) in
+        from_curves h ∙ entry_beside u8 is_u32 i32 (curve_fields version) behind (same_each (length (curves version)) u32) behind_each (k - 3) within (λ e. other (omega (arith, curves_long)))
+
+pub ruleset certificate_places = (certificate_counts, certificate_balance, certificate_others)

@@ -5,7 +5,7 @@
 ghost use Rattle.std.specs.Prelude.{◌≡◌, ℕ, ◌<◌, ◌≤◌, length, get_or};
 ghost use Rattle.market.specs.Bytes.{within_ℤ};
 ghost use Rattle.market.specs.CaseCheck.{most_resources, most_zones, CountsWithin};
-ghost use Rattle.market.specs.Numbers.{u8, field_width, field_low, field_high, field_at, head_fields, resource_fields, case_fields, certificate_head_fields, certificate_fields};
+ghost use Rattle.market.specs.Numbers.{u8, field_width, field_low, field_high, field_at, head_fields, resource_fields, case_fields, certificate_fields};
 ghost use Rattle.wire.specs.Within.{Within};
 ghost use Rattle.fields.specs.Layout.{field_of, fields_of, head_numbers, resource_numbers, certificate_head_numbers, entry_numbers};
 
@@ -65,8 +65,8 @@ impl Field {
 const ZONE_NUMBERS: usize = market::ZONED_CURVES;
 
 // ---- the tables, in the order of the file
-// A case's own figures, before those of its zones.
-const HEAD: [Field; 48] = [
+// A case's own figures, up to the market requirements and the steps of the curves, which are all u32.
+const HEAD: [Field; 13] = [
     // resources, zones, flowgates
     Field::U8,
     Field::U8,
@@ -84,46 +84,6 @@ const HEAD: [Field; 48] = [
     Field::U16,
     Field::U16,
     Field::U16,
-    // market requirements, in the same order
-    Field::U32,
-    Field::U32,
-    Field::U32,
-    // operating demand curve: four steps of width and price
-    Field::U32,
-    Field::U32,
-    Field::U32,
-    Field::U32,
-    Field::U32,
-    Field::U32,
-    Field::U32,
-    Field::U32,
-    // regulating-plus-spinning demand curve
-    Field::U32,
-    Field::U32,
-    Field::U32,
-    Field::U32,
-    Field::U32,
-    Field::U32,
-    Field::U32,
-    Field::U32,
-    // regulating demand curve
-    Field::U32,
-    Field::U32,
-    Field::U32,
-    Field::U32,
-    Field::U32,
-    Field::U32,
-    Field::U32,
-    Field::U32,
-    // short-term demand curve
-    Field::U32,
-    Field::U32,
-    Field::U32,
-    Field::U32,
-    Field::U32,
-    Field::U32,
-    Field::U32,
-    Field::U32,
 ];
 
 const RESOURCE: [Field; 43] = [
@@ -173,33 +133,12 @@ const RESOURCE: [Field; 43] = [
     Field::I32,
 ];
 
-// A certificate's figures, before those of its zones; all later ones are u32.
-const CERTIFICATE_HEAD: [Field; 12] = [
-    // resources, zones, flowgates
-    Field::U8,
-    Field::U8,
-    Field::U8,
-    // cleared quantities
-    Field::U32,
-    Field::U32,
-    Field::U32,
-    Field::U32,
-    // price of row 1
-    Field::I32,
-    // prices of rows 2 to 5
-    Field::U32,
-    Field::U32,
-    Field::U32,
-    Field::U32,
-];
-
 // ---- how many numbers a part of a file has: a case's head, each resource of it, a certificate's head, what it says of each resource
+#[tactic(auto, using(crate::proofs::Tables::head_long))]
 fn head_numbers(version: Version) -> usize
     ensures { result ≡ head_numbers version }
 {
-    match version {
-        Version::First => HEAD.len(),
-    }
+    HEAD.len() + market::RESERVES + version.curves() * market::CURVE_STEPS * 2
 }
 
 #[tactic(auto, using(crate::proofs::Tables::resource_long))]
@@ -211,12 +150,11 @@ fn resource_numbers(version: Version) -> usize
     }
 }
 
+#[tactic(auto, using(crate::proofs::Places::certificate_head_long))]
 fn certificate_head_numbers(version: Version) -> usize
     ensures { result ≡ certificate_head_numbers version }
 {
-    match version {
-        Version::First => CERTIFICATE_HEAD.len(),
-    }
+    4 + 2 * version.curves()
 }
 
 fn entry_numbers(version: Version) -> usize
@@ -225,14 +163,16 @@ fn entry_numbers(version: Version) -> usize
     version.services() + version.resource_rows()
 }
 
-// A table for each part, and a function that reads it: an array's length is in its type, and its definition in the clause.
+// ---- the field of each of them
+#[tactic(auto, using(crate::proofs::Tables::head_entry))]
 fn head_field(version: Version, k: usize) -> Field
     requires { k < head_numbers version }
     ensures { field_of result ≡ get_or (head_fields version) k u8 }
 {
-    match version {
-        Version::First => HEAD[k],
+    if k < HEAD.len() {
+        return HEAD[k];
     }
+    Field::U32
 }
 
 #[tactic(auto, using(crate::proofs::Tables::resource_long))]
@@ -242,15 +182,6 @@ fn resource_field(version: Version, k: usize) -> Field
 {
     match version {
         Version::First => RESOURCE[k],
-    }
-}
-
-fn certificate_head_field(version: Version, k: usize) -> Field
-    requires { k < certificate_head_numbers version }
-    ensures { field_of result ≡ get_or (certificate_head_fields version) k u8 }
-{
-    match version {
-        Version::First => CERTIFICATE_HEAD[k],
     }
 }
 
@@ -284,10 +215,15 @@ fn case_field(n: Counts, k: usize) -> Field
 fn certificate_field(n: Counts, k: usize) -> Field
     ensures { (r z f : ℕ) → k < length (certificate_fields n.version r z f) → field_of result ≡ get_or (certificate_fields n.version r z f) k u8 }
 {
-    if k < certificate_head_numbers(n.version) {
-        return certificate_head_field(n.version, k);
+    // resources, zones, flowgates
+    if k < 3 {
+        return Field::U8;
     }
-    Field::U32
+    // all later ones but the price of row 1, which stands between the cleared quantities and the prices of the reserve rows
+    if k != 3 + n.version.curves() {
+        return Field::U32;
+    }
+    Field::I32
 }
 
 // A trait with a type for each file says more and no plainer: each promise, two bodies of it, and both files' grounds besides. So it is

@@ -1,6 +1,6 @@
-use Rattle.market.specs.Numbers.{head_fields}
-use Rattle.fields.proofs.Tables.{table_entry}
+use native.Mathlib.Omega.{arith}
+use Rattle.fields.proofs.Tables.{head_later}
 use Rattle.fields.proofs.head_field.Goals as goal
 
 pub returns : goal.returns
-returns c = table_entry (head_fields c.args.version) c.args.k
+returns c = head_later c.args.version c.args.k (omega arith) c.requires
