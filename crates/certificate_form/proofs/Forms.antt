@@ -12,7 +12,7 @@ use Rattle.market.specs.declared.Counts.{Counts}
 use Rattle.market.specs.Bytes.{u8_at, u32_at}
 use Rattle.market.specs.Case.{Case}
 use Rattle.market.specs.CaseCheck.{length_right}
-use Rattle.market.specs.Certificate.{least_certificate_size, certificate_of, certificate_size, certificate_as}
+use Rattle.market.specs.Certificate.{certificate_of, certificate_size, certificate_as}
 use Rattle.market.specs.Records.{counts_in}
 use Rattle.market.specs.Refusals.{AllClear}
 use Rattle.market.specs.Outcome.{same_counts, form_grounds}
@@ -22,11 +22,11 @@ use Rattle.market.proofs.Passed.{form_passed}
 use Rattle.certificate_records.specs.CertificateBytes.{CertificateBytes}
 use Rattle.certificate_form.specs.Form.{counts_are, size_is}
 
-pub length_from : (q : List ℕ) → length_right least_certificate_size q ≡ true → least_certificate_size ≤ length q
+pub length_from : (q : List ℕ) {least : ℕ} → length_right least q ≡ true → least ≤ length q
 unfolding length_right
-length_from q e =
-    let t : T (length_right least_certificate_size q) = rw e tt in
-    leb→le least_certificate_size (length q) (and_split (leb least_certificate_size (length q)) (eqb (u32_at q 0 + 4) (length q)) t).0
+length_from q {least} e =
+    let t : T (length_right least q) = rw e tt in
+    leb→le least (length q) (and_split (leb least (length q)) (eqb (u32_at q 0 + 4) (length q)) t).0
 
 -- ---- 10 and 11 of the case's counts by value
 module _ (q : List ℕ) {n : Counts} (c : Case) (e : n ≡ counts_in c) where

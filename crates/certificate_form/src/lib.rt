@@ -24,7 +24,7 @@ use market::{Counts, LEAST_CERTIFICATE_SIZE, Refusal, ZONE_PRICES_SIZE};
 // ---- 8 to 11: the file's form
 #[tactic(auto, unfolding(crate::specs::Form::counts_are, market::specs::CaseFile::case_as))]
 fn same_counts(q: &[u8], n: Counts) -> bool
-    requires { Within q.now 0 (certificate_head_size (version_in q.now)) }
+    requires { Within q.now 0 8 }
     ensures { result ≡ counts_are q.now n }
 {
     case_check::counts_at(q) == n
@@ -72,18 +72,23 @@ fn zones_priced(q: &[u8], zones: usize) -> bool
     })
 }
 
+fn limits_priced_of(certificate: &SizedCertificate<'_>, i: usize) -> bool
+    requires { i < certificate.now.resources }
+    ensures { result ≡ limits_priced certificate.now.bytes.now certificate.now.zones certificate.now.flowgates i }
+{
+    let version = certificate.version();
+    let place = market::amounts_place(version, certificate.zones, certificate.flowgates, i);
+    let at = place + version.services() * 4;
+    case_ranges::all_at_most(certificate.bytes, at, version.resource_rows(), 400000000)
+}
+
 fn limits_priced(certificate: &SizedCertificate<'_>) -> bool
     ensures { result ≡ all (limits_priced certificate.now.bytes.now certificate.now.zones certificate.now.flowgates) (upto certificate.now.resources) }
 {
-    (0..certificate.resources).all(|i| {
-        let version = certificate.version();
-        let place = market::amounts_place(version, certificate.zones, certificate.flowgates, i);
-        let at = place + 4 * version.services();
-        case_ranges::all_at_most(certificate.bytes, at, version.resource_rows(), 400000000)
-    })
+    (0..certificate.resources).all(|i| limits_priced_of(certificate, i))
 }
 
-#[tactic(auto, using(crate::proofs::PriceFamilies::prices_by_place))]
+#[tactic(auto, using(crate::proofs::PriceFamilies::prices_by_place, crate::proofs::PricesWithin::market_prices_in, crate::proofs::PricesWithin::flowgate_prices_in), unfolding(market::specs::Certificate::certificate_as))]
 pub fn prices_right(certificate: &SizedCertificate<'_>) -> bool
     ensures { (c : Case) → counts_of certificate.now ≡ counts_in c → result ≡ all (price_right (certificate_in certificate.now)) (rows c) }
 {
