@@ -1,7 +1,8 @@
 -- A case: the figures of one dispatch interval, whatever file they came from (01, 'What is carried', 'The case file').
 -- Resources, zones, flowgates and steps count from 0 here. Power is in kW, prices are in cents per MWh.
-use Rattle.std.specs.Prelude.{Bool, true, List, [], ◌∷◌, ℕ, zero, suc, ◌+◌, ℤ}
-use Rattle.market.specs.Version.{Version}
+use Rattle.std.specs.Prelude.{Bool, true, List, [], ◌∷◌, ◌++◌, ℕ, zero, suc, ◌+◌, ℤ}
+use Rattle.arith.specs.Sums.{when}
+use Rattle.market.specs.Version.{Version, ramping}
 -- the demand curves, each with its reserve rows
 pub use Rattle.market.specs.declared.Curve.{Curve}
 pub use Rattle.market.specs.declared.Curve.TheVariants.{Operating as operating, RegulatingPlusSpinning as regulating_plus_spinning, Regulating as regulating, ShortTerm as short_term}
@@ -31,7 +32,7 @@ abbrev pub zoned_curves : List Curve
 zoned_curves = operating ∷ regulating_plus_spinning ∷ regulating ∷ short_term ∷ []
 
 abbrev pub curves : Version → List Curve
-curves version = zoned_curves
+curves version = zoned_curves ++ when (ramping version) []
 
 abbrev pub curve_number : Curve → ℕ
 curve_number operating = 0
