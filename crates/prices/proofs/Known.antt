@@ -1,5 +1,6 @@
 -- What a standing case and certificate are known to be: ranges by number.
 use mathlib.Core.Path.{◌≡◌, refl}
+use mathlib.Core.Bool.{false}
 use mathlib.Core.List.{List}
 use Prim.Native.Nat.{ℕ, ◌-◌, ◌*◌, ◌<◌, ◌≤◌}
 use native.Mathlib.Nat.{mul-le-mul}
@@ -10,11 +11,15 @@ use Rattle.arith.proofs.Magnitudes.{abs-mul}
 use Rattle.arith.proofs.NaturalSums.{upto-size}
 use lib.Dec.{T}
 use Rattle.market.specs.Sizes.{most_provided}
-use Rattle.market.specs.CaseFile.{case_of}
+use Rattle.market.specs.Version.{version_in}
+use Rattle.market.specs.declared.Curve.{Curve}
+use Rattle.market.specs.Case.{has_curve}
+use Rattle.market.specs.CaseFile.{case_of, case_as}
 use Rattle.market.specs.declared.Curve.TheVariants.{Operating as operating, RegulatingPlusSpinning as regulating_plus_spinning, Regulating as regulating, ShortTerm as short_term}
-use Rattle.market.specs.UpperBounds.{Service, energy, regulation, contingency, on_line_short_term, off_line_short_term, provided_quantity, has_service}
+use Rattle.market.specs.UpperBounds.{Service, energy, regulation, contingency, on_line_short_term, off_line_short_term, cleared_quantity, provided_quantity, has_service}
 use Rattle.market.specs.Rows.{balance_row, market_row, zone_row, flowgate_row}
-use Rattle.market.specs.Certificate.{Prices, certificate_of}
+use Rattle.market.specs.Certificate.{Prices, certificate_of, certificate_as, amount_at}
+use Rattle.market.proofs.Versions.{one_version}
 use Rattle.market.proofs.Ranges.{CaseRanges, PriceRanges, valid_ranges, price_ranges}
 use Rattle.market.proofs.ScheduleSizes.{amount_of}
 use Rattle.case_records.proofs.Places.{resources_is, zones_is, flowgates_is}
@@ -86,6 +91,11 @@ module _ {b q : List ℕ} {r z f : ℕ} (s : PricesStand b q r z f) where
 
   pub lmp_room : (i : ℕ) → i < r → SumRoom ((certificate_of q).price balance_row) (sum_of (λ g. (certificate_of q).price (flowgate_row g) *ℤ (case_of b).shift_factor g i) (upto f))
   lmp_room i k = omega (arith, balance_size, congestion_so_far f i (omega arith) k, s.case_bytes.counts.most_flowgates)
+
+  -- of a curve that the case has not, the certificate has 0
+  pub no_cleared : (k : Curve) → has_curve (case_of b).version k ≡ false → (certificate_of q).amount (cleared_quantity k) ≡ 0
+  unfolding case_as certificate_as amount_at
+  no_cleared k e = rw (one_version (version_in q) (version_in b), e)
 
   -- the market rows' prices, and a zone's
   pub market_small : SmallPrices (reserve_prices_of (certificate_of q).price market_row)

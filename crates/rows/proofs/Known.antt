@@ -5,15 +5,15 @@ use mathlib.Core.Bool.{Bool, true, false}
 use mathlib.Core.List.{List, [], ◌∷◌, ◌++◌, map}
 use Prim.Native.Nat.{ℕ, ◌+◌, ◌*◌, ◌<◌, ◌≤◌}
 use native.Mathlib.Omega.{arith}
-use lib.ListN.{length}
+use lib.ListN.{length, length-map}
 use Rattle.arith.specs.Sums.{sum_of, upto, across}
 use Rattle.arith.proofs.Lists.{length-across, length-upto, across-one}
 use Rattle.arith.proofs.NaturalSums.{upto-size}
 use Rattle.market.specs.declared.Refusal.{Refusal}
-use Rattle.market.specs.Case.{Case, zoned_curves}
+use Rattle.market.specs.Case.{Case, zoned_curves, curves}
 use Rattle.market.specs.CaseCheck.{most_resources}
 use Rattle.market.specs.UpperBounds.{energy}
-use Rattle.market.specs.Rows.{Row, balance_row, zone_row, flowgate_row, market_rows, zone_rows, flowgate_rows, limit_rows, rows, zone_row_count}
+use Rattle.market.specs.Rows.{Row, balance_row, market_row, zone_row, flowgate_row, market_rows, zone_rows, flowgate_rows, limit_rows, rows, zone_row_count}
 use Rattle.market.specs.Certificate.{certificate_of}
 use Rattle.market.specs.InWords.{kw_of}
 use Rattle.market.specs.Refusals.{Finding, found_at, first_failing}
@@ -57,6 +57,9 @@ module _ (t : Row → Bool) (r : ℕ → Refusal) (c : Case) where
   abbrev network_found : Finding
   network_found = first_failing t r (first_zone_row c.version + c.zones * zone_row_count) (flowgate_rows c ++ limit_rows c)
 
+  market_rows_long : 2 + length (market_rows c) ≡ first_zone_row c.version
+  market_rows_long = omega (arith, length-map (curves c.version) market_row)
+
   rows_first : or_else balance_found (or_else market_found (or_else zones_found network_found)) ≡ first_failing t r 1 (rows c)
   unfolding rows
   rows_first =
@@ -65,7 +68,7 @@ module _ (t : Row → Bool) (r : ℕ → Refusal) (c : Case) where
       ∙ ap (or_else balance_found)
       (first_append t r 2 (market_rows c) (zone_rows c ++ (flowgate_rows c ++ limit_rows c))
       ∙ ap (or_else market_found)
-      (first_append t r (first_zone_row c.version) (zone_rows c) (flowgate_rows c ++ limit_rows c) ∙ rw (zone_rows_long c))))
+      (ap (λ (n : ℕ). first_failing t r n (zone_rows c ++ (flowgate_rows c ++ limit_rows c))) market_rows_long ∙ first_append t r (first_zone_row c.version) (zone_rows c) (flowgate_rows c ++ limit_rows c) ∙ rw (zone_rows_long c))))
 
   -- row 1 is broken
   pub balance_broken : t balance_row ≡ false → found_at r (Some 1) ≡ first_failing t r 1 (rows c)

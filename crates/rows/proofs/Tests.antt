@@ -1,13 +1,14 @@
 -- The tests of each family say of its rows whether they are met.
 use mathlib.Core.Path.{◌≡◌, sym, ◌∙◌, ap}
-use mathlib.Core.Bool.{◌&&◌}
+use lib.Dec.{T}
+use mathlib.Core.Bool.{true, false, true≢false, ◌&&◌}
 use mathlib.Core.List.{[], ◌∷◌, map}
 use Prim.Native.Nat.{ℕ, ◌<◌}
 use lib.IntN.{ℤ, pos, ◌+ℤ◌, ◌-ℤ◌, ◌*ℤ◌}
 use lib.Signed.{le_z}
 use Rattle.arith.specs.Sums.{sum_of, upto}
 use Rattle.arith.proofs.Order.{le_z_sub, sub_le_z}
-use Rattle.market.specs.Case.{Case, zoned_curves}
+use Rattle.market.specs.Case.{Case, has_curve, zoned_curves}
 use Rattle.market.specs.declared.Curve.{Curve}
 use Rattle.market.specs.declared.Curve.TheVariants.{Operating as operating, RegulatingPlusSpinning as regulating_plus_spinning, Regulating as regulating, ShortTerm as short_term}
 use Rattle.market.specs.Limits.{max_of, min_of, hi_of, lo_of}
@@ -18,9 +19,9 @@ use Rattle.market.specs.InWords.{RowsInWords, kw_of, reserve_of, reserve_in_zone
 use Rattle.market.specs.Outcome.{row_met}
 use Rattle.market.specs.Records.{amounts_of, cleared_of, curve_amounts_of}
 use Rattle.market.proofs.RowSlacks.{rows_in_words}
-use Rattle.market.proofs.Versions.{all_four_curves}
 use Rattle.limits.specs.Together.{limits_of}
-use Rattle.units.specs.Search.{short_tests}
+use Rattle.units.specs.Search.{first_false, short_tests}
+use Rattle.units.proofs.Search.{searched_over_all}
 use Rattle.rows.specs.Tests.{limit_tests}
 
 -- a row 'at least' whose slack is b - a
@@ -45,12 +46,21 @@ module _ (c : Case) (k : Certificate) where
   balance_met n e = rw (e, met (pos c.demand) produced words.balance, no_more)
 
   -- ---- reserve rows
-  market_met : (l : Curve) → le_z (pos (x (cleared_quantity l))) (sum_of (reserve_of c x l) (upto c.resources)) ≡ row_met c k (market_row l)
-  market_met l = met (pos (x (cleared_quantity l))) (sum_of (reserve_of c x l) (upto c.resources)) (words.market l (all_four_curves c.version l))
+  market_met : (l : Curve) → T (has_curve c.version l) → le_z (pos (x (cleared_quantity l))) (sum_of (reserve_of c x l) (upto c.resources)) ≡ row_met c k (market_row l)
+  market_met l t = met (pos (x (cleared_quantity l))) (sum_of (reserve_of c x l) (upto c.resources)) (words.market l t)
 
-  pub market_tests : (n : ℕ) → n ≡ c.resources → short_tests (curve_amounts_of (λ l. sum_of (reserve_of c x l) (upto n))) (cleared_of x) ≡ map (row_met c k) (market_rows c)
+  -- of a curve that there is not, nothing is asked
+  none_met : (l : Curve) → has_curve c.version l ≡ false → x (cleared_quantity l) ≡ 0 → le_z (pos (x (cleared_quantity l))) (sum_of (reserve_of c x l) (upto c.resources)) ≡ true
+  none_met operating e z = absurd (true≢false e)
+  none_met regulating_plus_spinning e z = absurd (true≢false e)
+  none_met regulating e z = absurd (true≢false e)
+  none_met short_term e z = absurd (true≢false e)
+
+  pub market_tests : ((l : Curve) → has_curve c.version l ≡ false → x (cleared_quantity l) ≡ 0) → (n : ℕ) → n ≡ c.resources → (m : ℕ) →
+      first_false m (short_tests (curve_amounts_of (λ l. sum_of (reserve_of c x l) (upto n))) (cleared_of x)) ≡ first_false m (map (row_met c k) (market_rows c))
   unfolding cleared_of
-  market_tests n e = rw e (λ j. market_met operating j ∷ market_met regulating_plus_spinning j ∷ market_met regulating j ∷ market_met short_term j ∷ [])
+  market_tests none n e m =
+      rw e (searched_over_all market_row (row_met c k) (λ l. le_z (pos (x (cleared_quantity l))) (sum_of (reserve_of c x l) (upto c.resources))) c.version market_met (λ l t. none_met l t (none l t)) m)
 
   zone_met : (y : ℕ) (l : Curve) → le_z (pos (c.zone_requirement y l)) (sum_of (reserve_in_zone c x y l) (upto c.resources)) ≡ row_met c k (zone_row y l)
   zone_met y l = met (pos (c.zone_requirement y l)) (sum_of (reserve_in_zone c x y l) (upto c.resources)) (words.zone y l)

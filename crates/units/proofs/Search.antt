@@ -1,9 +1,14 @@
 -- A search among pairs, from the k-th on; and what a search for the first that fails a test finds.
-use Rattle.std.proofs.Common.{◌≡◌, refl, ap, sym, ◌∙◌, ℕ, suc, ◌+◌, ◌*◌, ◌<◌, ◌≤◌, Bool, true, false, List, [], ◌∷◌, map, drop, get_or, length, arith}
+use Rattle.std.proofs.Common.{◌≡◌, refl, ap, sym, ◌∙◌, ℕ, suc, ◌+◌, ◌*◌, ◌<◌, ◌≤◌, Bool, true, false, List, [], ◌∷◌, T, map, drop, get_or, length, arith}
 use native.Mathlib.Numerals.{add-one}
 use Rattle.std.specs.Prelude.{Option, Some, None}
 use Rattle.std.proofs.lemmas.List.{drop_more, drop_all}
 use Rattle.market.specs.declared.Kw.{Kw}
+use Rattle.market.specs.declared.version.Version.{Version}
+use Rattle.market.specs.declared.version.Version.TheVariants.{First}
+use Rattle.market.specs.declared.Curve.{Curve}
+use Rattle.market.specs.declared.Curve.TheVariants.{Operating as operating, RegulatingPlusSpinning as regulating_plus_spinning, Regulating as regulating, ShortTerm as short_term}
+use Rattle.market.specs.Case.{all_curves, has_curve, curves}
 use Rattle.market.specs.declared.Refusal.{Refusal}
 use Rattle.market.specs.Refusals.{Finding, clear, holds, found_at, first_failing}
 use Rattle.market.proofs.FirstFailing.{or_else, first_none, first_blocks, first_kept}
@@ -66,3 +71,8 @@ module _ {A : Type 0} (f : A → Bool) (r : ℕ → Refusal) where
 
       pub search_stop : (k p : ℕ) → i < k → n ≡ Some p → found_at r (Some p) ≡ first_failing f r s (across g (upto k))
       search_stop k p l e = sym (first_kept f r g m long s (suc i) k (r p) l (block ∙ ap (found_at r) e))
+
+-- ---- over the curves: what passes where the version has no such curve may be tested too
+module _ {A : Type 0} (make : Curve → A) (passes : A → Bool) (test : Curve → Bool) where
+  pub searched_over_all : (version : Version) → ((k : Curve) → T (has_curve version k) → test k ≡ passes (make k)) → ((k : Curve) → has_curve version k ≡ false → test k ≡ true) → (n : ℕ) → first_false n (map test all_curves) ≡ first_false n (map passes (map make (curves version)))
+  searched_over_all First same absent n = ap (first_false n) (λ j. same operating tt j ∷ same regulating_plus_spinning tt j ∷ same regulating tt j ∷ same short_term tt j ∷ [])

@@ -10,13 +10,14 @@ use Rattle.market.specs.Refusals.{first_failing, found_at}
 use Rattle.market.specs.Outcome.{within_bound}
 use Rattle.case_records.proofs.Places.{resources_is}
 use Rattle.units.proofs.Search.{first_false_lem, first_here, first_next}
+use Rattle.prices.proofs.Known.{no_cleared}
 use Rattle.quantities.proofs.Above.{cleared_tests, in_turn}
 use Rattle.quantities.proofs.first_above.Goals as goal
 use Rattle.quantities.proofs.first_above.Goals.{After-first_short}
 
 cleared : (c : After-first_short) → found_at AboveBound c.first_short.result ≡ first_failing (within_bound (the_case c.args.priced.now) (certificate_in c.args.priced.now.certificate)) AboveBound 1 (map cleared_quantity (curves (the_case c.args.priced.now).version))
 cleared c =
-    rw (c.first_short.ensures, c.cleared-given.ensures, c.curve_bounds-most.ensures, cleared_tests (the_amounts c.args.priced.now) (upper_bound (the_case c.args.priced.now)) (the_case c.args.priced.now).version)
+    rw (c.first_short.ensures, c.cleared-given.ensures, c.curve_bounds-most.ensures, cleared_tests (the_amounts c.args.priced.now) (upper_bound (the_case c.args.priced.now)) (the_case c.args.priced.now).version (no_cleared c.args.priced.now.prices_stand) 1)
     (first_false_lem (within_bound (the_case c.args.priced.now) (certificate_in c.args.priced.now.certificate)) AboveBound 1 (map cleared_quantity (curves (the_case c.args.priced.now).version)))
 
 pub returns-in-Some : goal.returns-in-Some
