@@ -7,7 +7,7 @@ use lib.IntN.{pos, nat_abs, ◌+ℤ◌, ◌-ℤ◌}
 use Rattle.arith.specs.Sums.{sum_of, total_of, upto}
 use Rattle.arith.proofs.Magnitudes.{abs-add, abs-sub}
 use Rattle.arith.proofs.NaturalSums.{upto-size, sum-size}
-use Rattle.market.proofs.Versions.{all_four_curves}
+use Rattle.market.proofs.Versions.{all_four_curves, curves_most}
 use Rattle.market.specs.Case.{Case, curves}
 use Rattle.market.specs.declared.Curve.{Curve}
 use Rattle.market.specs.declared.Curve.TheVariants.{Operating as operating, RegulatingPlusSpinning as regulating_plus_spinning, Regulating as regulating, ShortTerm as short_term}
@@ -83,7 +83,7 @@ module _ {b q : List ℕ} {r z f : ℕ} (s : Standing b q r z f) where
 
   curves_size : nat_abs (sum_of (curve_value c x) (curves c.version)) ≤ 51200000000000
   unfolding total_of
-  curves_size = omega (arith, sum-size (curve_value c x) (curves c.version), curve_size operating, curve_size regulating_plus_spinning, curve_size regulating, curve_size short_term)
+  curves_size = omega (arith, sum-size (curve_value c x) (curves c.version), curves_most c.version (λ k. nat_abs (curve_value c x k)), curve_size operating, curve_size regulating_plus_spinning, curve_size regulating, curve_size short_term)
 
   -- ---- all
   pub cost_room : SumRoom (sum_of (resource_worth c x) (upto r)) (sum_of (curve_value c x) (curves c.version))

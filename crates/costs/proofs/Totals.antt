@@ -2,7 +2,8 @@
 use Rattle.market.specs.declared.PerService.{PerService}
 use Rattle.market.specs.declared.Kw.{Kw}
 use mathlib.Core.Path.{◌≡◌, sym, ap, ◌∙◌}
-use mathlib.Core.List.{map}
+use mathlib.Core.Bool.{false}
+use mathlib.Core.List.{List, map}
 use Prim.Native.Nat.{ℕ, ◌≤◌}
 use native.Mathlib.Nat.{mul-le-mul}
 use native.Mathlib.Omega.{arith}
@@ -13,7 +14,10 @@ use Rattle.arith.proofs.Magnitudes.{abs-add, abs-mul}
 use Rattle.arith.proofs.Sums.{sum-ext, sum-neg, sum-map, sum-across, append_sums}
 use Rattle.market.specs.declared.version.Version.{Version}
 use Rattle.market.specs.declared.version.Version.TheVariants.{First as first}
-use Rattle.market.specs.Case.{Case, curves, energy_steps, curve_steps}
+use Rattle.market.specs.Version.{version_in}
+use Rattle.market.specs.Case.{Case, all_curves, has_curve, curves, energy_steps, curve_steps}
+use Rattle.market.specs.CaseFile.{case_as, case_of}
+use Rattle.market.proofs.Versions.{summed_over_all}
 use Rattle.market.specs.declared.Curve.{Curve}
 use Rattle.market.specs.declared.Curve.TheVariants.{Operating as operating, RegulatingPlusSpinning as regulating_plus_spinning, Regulating as regulating, ShortTerm as short_term}
 use Rattle.market.specs.UpperBounds.{Schedule, provided_quantity, cleared_quantity, energy, reserve_services}
@@ -53,9 +57,19 @@ module _ {p : ReserveOffers} {a : (PerService Kw)} (h : RangedOffers p) (k : Sma
       omega (arith, abs-add (p.regulating.0 *ℤ a.regulation.0) last, regulation_size, last_size)
 
 -- ---- over the curves, as they are added up
-pub four_curves : (version : Version) (g : Curve → ℤ) → sum_of g (curves version) ≡ g operating +ℤ (g regulating_plus_spinning +ℤ (g regulating +ℤ g short_term))
+added_up : (g : Curve → ℤ) → sum_of g all_curves ≡ g operating +ℤ (g regulating_plus_spinning +ℤ (g regulating +ℤ g short_term))
 unfolding sum_of
-four_curves version g = rw (+ℤ_idr (g short_term))
+added_up g = rw (+ℤ_idr (g short_term))
+
+-- one that a file has not is worth 0
+absent_value : (b : List ℕ) (x : Schedule) (k : Curve) → has_curve (version_in b) k ≡ false → curve_value (case_of b) x k ≡ pos 0
+unfolding curve_value case_as sum_of upto
+absent_value b x k e = rw e (ap pos (omega arith))
+
+pub curves_added_up : (b : List ℕ) (x : Schedule) → sum_of (curve_value (case_of b) x) (curves (case_of b).version)
+    ≡ curve_value (case_of b) x operating +ℤ (curve_value (case_of b) x regulating_plus_spinning +ℤ (curve_value (case_of b) x regulating +ℤ curve_value (case_of b) x short_term))
+unfolding case_as
+curves_added_up b x = summed_over_all (version_in b) (curve_value (case_of b) x) (absent_value b x) ∙ added_up (curve_value (case_of b) x)
 
 -- ---- of a case and a schedule
 module _ (c : Case) (x : Schedule) where

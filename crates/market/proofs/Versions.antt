@@ -1,13 +1,15 @@
 -- The lists that ask for the version, by membership; and what no version has yet.
-use mathlib.Core.Path.{◌≡◌, refl, sym, ap, subst}
-use mathlib.Core.Bool.{Bool}
+use mathlib.Core.Path.{◌≡◌, refl, sym, ap, subst, ◌∙◌}
+use mathlib.Core.Bool.{Bool, true, false, cond}
 use mathlib.Core.List.{List}
 use Prim.Native.Nat.{ℕ, ◌≤◌}
 use native.Mathlib.Omega.{arith}
 use lib.Dec.{T}
-use Rattle.arith.specs.Sums.{total_of, Each, kept}
+use lib.IntN.{ℤ, pos}
+use Rattle.arith.specs.Sums.{total_of, Each, kept, sum_of}
 use Rattle.arith.proofs.Lists.{each-any}
-use Rattle.arith.proofs.Kept.{each-kept, of_kept, total_kept}
+use Rattle.arith.proofs.Sums.{sum-ext}
+use Rattle.arith.proofs.Kept.{each-kept, of_kept, total_kept, sum-kept}
 use Rattle.market.specs.Version.{Version, first, ramping, storing}
 use Rattle.market.specs.Case.{Curve, operating, regulating_plus_spinning, regulating, short_term, all_curves, zoned_curves, zoned, curves, has_curve}
 use Rattle.market.specs.UpperBounds.{Service, energy, regulation, contingency, on_line_short_term, off_line_short_term, ramping_up, ramping_down, charging, all_services, services, has_service}
@@ -97,6 +99,17 @@ module _ (version : Version) where
 
   pub limits_most : (f : Limit → ℕ) → total_of f (limits version) ≤ total_of f all_limits
   limits_most f = omega (arith, ap (total_of f) (membership.limits_kept version), total_kept (has_limit version) f all_limits)
+
+-- what is 0 of a curve that the version has not, may be summed over all
+pub summed_over_all : (version : Version) (f : Curve → ℤ) → ((k : Curve) → has_curve version k ≡ false → f k ≡ pos 0) → sum_of f (curves version) ≡ sum_of f all_curves
+summed_over_all version f h =
+    ap (sum_of f) (membership.curves_kept version)
+    ∙ sum-kept (has_curve version) f all_curves
+    ∙ sum-ext (λ k. cond (has_curve version k) (f k) (pos 0)) f (λ k. go k (has_curve version k) refl) all_curves
+  where
+    go : (k : Curve) (t : Bool) → has_curve version k ≡ t → cond t (f k) (pos 0) ≡ f k
+    go k true e = refl
+    go k false e = sym (h k e)
 
 -- a curve that zones have, every version has
 pub zoned_is_curve : (version : Version) (k : Curve) → T (zoned k) → T (has_curve version k)

@@ -2,9 +2,9 @@ use native.Mathlib.Omega.{arith}
 use Rattle.market.specs.declared.Curve.TheVariants.{Operating as operating, RegulatingPlusSpinning as regulating_plus_spinning, Regulating as regulating, ShortTerm as short_term}
 use Rattle.market.specs.Records.{cleared_of}
 use Rattle.costs.specs.Worth.{curve_value}
-use Rattle.costs.proofs.Totals.{four_curves, curve_value_is}
+use Rattle.costs.proofs.Totals.{curves_added_up, curve_value_is}
 use Rattle.costs.proofs.Known.{cleared_known, curve_size, two_curves_size, three_curves_size}
-use Rattle.prices.specs.PricedCase.{the_case, the_amounts}
+use Rattle.prices.specs.PricedCase.{the_case, the_amounts, case_bytes}
 use Rattle.costs.proofs.curves_value.Goals as goal
 
 pub curve_value-operating-requires : goal.curve_value-operating-requires
@@ -48,4 +48,4 @@ pub returns : goal.returns
 unfolding cleared_of
 returns c =
     let is = curve_value_is (the_case c.args.bounded.now.priced) (the_amounts c.args.bounded.now.priced) in
-    rw (c.sum-3.ensures, c.sum-2.ensures, c.sum.ensures, c.curve_value-operating.ensures, c.curve_value-spinning.ensures, c.curve_value-regulating.ensures, c.curve_value-short_term.ensures, c.curve.ensures, c.curve-2.ensures, c.curve-3.ensures, c.curve-4.ensures, c.cleared-cleared.ensures, is operating, is regulating_plus_spinning, is regulating, is short_term, four_curves (the_case c.args.bounded.now.priced).version (curve_value (the_case c.args.bounded.now.priced) (the_amounts c.args.bounded.now.priced)))
+    rw (c.sum-3.ensures, c.sum-2.ensures, c.sum.ensures, c.curve_value-operating.ensures, c.curve_value-spinning.ensures, c.curve_value-regulating.ensures, c.curve_value-short_term.ensures, c.curve.ensures, c.curve-2.ensures, c.curve-3.ensures, c.curve-4.ensures, c.cleared-cleared.ensures, is operating, is regulating_plus_spinning, is regulating, is short_term, curves_added_up (case_bytes c.args.bounded.now.priced) (the_amounts c.args.bounded.now.priced))
