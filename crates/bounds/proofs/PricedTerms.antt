@@ -1,23 +1,24 @@
 -- The priced quantities' part of the bound: what the records of a case and net prices make of it; then the whole
 -- bound.
 use Rattle.market.specs.declared.Step.{Step}
-use mathlib.Core.Path.{◌≡◌, refl, sym, ◌∙◌}
+use mathlib.Core.Path.{◌≡◌, refl, sym, ◌∙◌, ap, subst}
+use lib.Dec.{T}
 use mathlib.Core.Bool.{Bool, true, false, cond}
 use mathlib.Core.List.{List, map}
 use Prim.Native.Nat.{ℕ, ◌<◌}
 use native.Mathlib.Omega.{arith}
-use lib.IntN.{ℤ, pos, ◌+ℤ◌, +ℤ_idr}
-use Rattle.arith.specs.Sums.{sum_of, upto, across}
-use Rattle.arith.proofs.Lists.{each-upto}
+use lib.IntN.{ℤ, pos, ◌+ℤ◌, ◌-ℤ◌, ◌*ℤ◌, +ℤ_idr, *ℤ-zero}
+use Rattle.arith.specs.Sums.{sum_of, min_ℤ, upto, across}
+use Rattle.arith.proofs.Lists.{each-upto, each-any}
 use Rattle.arith.proofs.Linear.{sorted, count}
-use Rattle.arith.proofs.Sums.{sum-each-ext, append_sums, sum-add, sum-map, sum-across}
-use Rattle.market.proofs.Versions.{all_four_curves}
+use Rattle.arith.proofs.Sums.{sum-each-ext, all-zero-sum, append_sums, sum-add, sum-map, sum-across}
+use Rattle.market.specs.Version.{version_in}
 use Rattle.market.specs.declared.version.Version.{Version}
 use Rattle.market.specs.declared.version.Version.TheVariants.{First as first}
-use Rattle.market.specs.Case.{Case, curves, energy_steps, curve_steps}
+use Rattle.market.specs.Case.{Case, has_curve, curves, energy_steps, curve_steps}
 use Rattle.market.specs.declared.Curve.{Curve}
 use Rattle.market.specs.declared.Curve.TheVariants.{Operating as operating, RegulatingPlusSpinning as regulating_plus_spinning, Regulating as regulating, ShortTerm as short_term}
-use Rattle.market.specs.CaseFile.{case_of}
+use Rattle.market.specs.CaseFile.{case_of, case_as}
 use Rattle.market.specs.declared.Grains.{Grains}
 use Rattle.market.specs.declared.Millicents.{Millicents}
 use Rattle.market.specs.Availability.{on_line}
@@ -25,7 +26,7 @@ use Rattle.market.specs.UpperBounds.{Service, regulation, contingency, on_line_s
 use Rattle.market.specs.Rows.{balance_row, market_row, rows}
 use Rattle.market.specs.Certificate.{Prices, certificate_of}
 use Rattle.market.specs.Cost.{priced_energy_step, priced_whole, priced_curve_step, priced_of, curve_priced, priced, priced_upper_bound}
-use Rattle.market.specs.Bound.{lowest}
+use Rattle.market.specs.Bound.{net_price, lowest}
 use Rattle.market.specs.Records.{power, millicents, offer_step_of, offer_steps_of, curve_step_of, curve_steps_of}
 use Rattle.market.proofs.NetPrices.{net_prices_in_words}
 use Rattle.market.proofs.Ranges.{CaseRanges, PriceRanges}
@@ -70,11 +71,31 @@ module _ (c : Case) (y : Prices) (h : CaseRanges c) (p : PriceRanges c y) (i : �
       (sum-map (lowest c y) (priced_energy_step i) (upto energy_steps) ∙ sym steps_least_are)
       (sym reserves_least_are))
 
--- ---- the curves
-module _ (c : Case) (y : Prices) where
+-- ---- a curve that a case has
+pub had_step_least : (c : Case) (y : Prices) (k : Curve) → T (has_curve c.version k) → (j : ℕ) → j < curve_steps → curve_step_least (millicents (y (market_row k))) (curve_step (curve_steps_of c k) j) ≡ lowest c y (priced_curve_step k j)
+unfolding curve_step_least curve_step_of lowest priced_upper_bound
+had_step_least c y k t j l = rw (curve_step_is c k j l, (net_prices_in_words c y).curve_step k t j)
+
+-- ---- the curves of a file's case: one that it has not has widths 0 and adds 0
+module _ (b : List ℕ) (y : Prices) where
+  abbrev c : Case
+  c = case_of b
+
+  none_least : (k : Curve) (j : ℕ) → has_curve (version_in b) k ≡ false → lowest c y (priced_curve_step k j) ≡ pos 0
+  unfolding case_as lowest priced_upper_bound min_ℤ
+  none_least k j e = rw e (ap (min_ℤ (pos 0)) (*ℤ-zero (net_price c y (priced_curve_step k j))))
+
+  none_step_least : (k : Curve) (j : ℕ) → has_curve (version_in b) k ≡ false → curve_step_least (millicents (y (market_row k))) (curve_step_of c k j) ≡ pos 0
+  unfolding case_as curve_step_least curve_step_of min_ℤ
+  none_step_least k j e = rw e (ap (min_ℤ (pos 0)) (*ℤ-zero (y (market_row k) -ℤ pos 1000 *ℤ pos 0)))
+
   pub curve_step_least_is : (k : Curve) (j : ℕ) → j < curve_steps → curve_step_least (millicents (y (market_row k))) (curve_step (curve_steps_of c k) j) ≡ lowest c y (priced_curve_step k j)
-  unfolding curve_step_least curve_step_of lowest priced_upper_bound
-  curve_step_least_is k j l = rw (curve_step_is c k j l, (net_prices_in_words c y).curve_step k (all_four_curves c.version k) j)
+  unfolding case_as
+  curve_step_least_is k j l = go (has_curve (version_in b) k) refl
+    where
+      go : (t : Bool) → has_curve (version_in b) k ≡ t → curve_step_least (millicents (y (market_row k))) (curve_step (curve_steps_of c k) j) ≡ lowest c y (priced_curve_step k j)
+      go true e = had_step_least c y k (subst T (sym e) tt) j l
+      go false e = rw (curve_step_is c k j l) (none_step_least k j e ∙ sym (none_least k j e))
 
   curve_least_is : (k : Curve) → sum_of (λ j. curve_step_least (millicents (y (market_row k))) (curve_step (curve_steps_of c k) j)) (upto curve_steps) ≡ sum_of (lowest c y) (curve_priced k)
   curve_least_is k = sum-each-ext _ _ (upto curve_steps) (each-upto _ curve_steps (curve_step_least_is k)) ∙ sym (sum-map (lowest c y) (priced_curve_step k) (upto curve_steps))
@@ -84,11 +105,16 @@ module _ (c : Case) (y : Prices) where
       Sized g.0 (sum_of (λ j. curve_step_least p (curve_step o j)) (upto curve_steps)) m → Sized g.0 (sum_of (lowest c y) (curve_priced k)) m
   curve_from_lem k e d h = record { is = h.is ∙ rw (e, d) (curve_least_is k); size = h.size }
 
+  none_adds : (k : Curve) → has_curve (version_in b) k ≡ false → sum_of (lowest c y) (curve_priced k) ≡ pos 0
+  none_adds k e = sum-map (lowest c y) (priced_curve_step k) (upto curve_steps) ∙ all-zero-sum (λ j. lowest c y (priced_curve_step k j)) (upto curve_steps) (each-any _ (upto curve_steps) (λ j. none_least k j e))
+
   pub curves_are : sum_of (lowest c y) (curve_priced operating)
       +ℤ (sum_of (lowest c y) (curve_priced regulating_plus_spinning) +ℤ (sum_of (lowest c y) (curve_priced regulating) +ℤ sum_of (lowest c y) (curve_priced short_term)))
       ≡ sum_of (lowest c y) (across curve_priced (curves c.version))
-  curves_are = over_market c.version (λ k. sum_of (lowest c y) (curve_priced k)) ∙ sym (sum-across (lowest c y) curve_priced (curves c.version))
+  unfolding case_as
+  curves_are = over_market (version_in b) (λ k. sum_of (lowest c y) (curve_priced k)) none_adds ∙ sym (sum-across (lowest c y) curve_priced (curves (version_in b)))
 
+module _ (c : Case) (y : Prices) where
   all_priced : sum_of (λ i. sum_of (lowest c y) (priced_of c.version i)) (upto c.resources) +ℤ sum_of (lowest c y) (across curve_priced (curves c.version)) ≡ sum_of (lowest c y) (priced c)
   unfolding priced
   all_priced = sym (append_sums (lowest c y) (across (priced_of c.version) (upto c.resources)) (across curve_priced (curves c.version)) (sum-across (lowest c y) (priced_of c.version) (upto c.resources)) refl)

@@ -1,5 +1,6 @@
 -- The rows' part of the bound: what the records of a case and of a certificate make of it, and that they are small enough.
-use mathlib.Core.Path.{◌≡◌, ◌∙◌}
+use mathlib.Core.Path.{◌≡◌, sym, ◌∙◌}
+use mathlib.Core.Bool.{false}
 use mathlib.Core.List.{List}
 use Prim.Native.Nat.{ℕ, ◌*◌, ◌<◌, ◌≤◌}
 use native.Mathlib.Nat.{mul-le-mul}
@@ -10,7 +11,8 @@ use Rattle.arith.proofs.Linear.{sorted, count}
 use Rattle.arith.proofs.Magnitudes.{abs-sub, abs-mul}
 use Rattle.arith.proofs.Sums.{sum-ext, sum-zero}
 use Rattle.market.specs.declared.version.Version.{Version}
-use Rattle.market.specs.Case.{Case, curves, zoned_curves}
+use Rattle.market.specs.Case.{Case, all_curves, has_curve, curves, zoned_curves}
+use Rattle.market.proofs.Versions.{summed_over_all}
 use Rattle.market.specs.declared.Curve.{Curve}
 use Rattle.market.specs.declared.Curve.TheVariants.{Operating as operating, RegulatingPlusSpinning as regulating_plus_spinning, Regulating as regulating, ShortTerm as short_term}
 use Rattle.market.specs.CaseFile.{case_of}
@@ -33,9 +35,14 @@ over_curves : (f : Curve → ℤ) → f operating +ℤ (f regulating_plus_spinni
 unfolding sum_of
 over_curves f = rw (+ℤ_idr (f short_term))
 
--- and over the market's
-pub over_market : (version : Version) (f : Curve → ℤ) → f operating +ℤ (f regulating_plus_spinning +ℤ (f regulating +ℤ f short_term)) ≡ sum_of f (curves version)
-over_market version = over_curves
+-- and over the market's, where f is 0 of a curve that the version has not
+over_all : (f : Curve → ℤ) → f operating +ℤ (f regulating_plus_spinning +ℤ (f regulating +ℤ f short_term)) ≡ sum_of f all_curves
+unfolding sum_of
+over_all f = rw (+ℤ_idr (f short_term))
+
+pub over_market : (version : Version) (f : Curve → ℤ) → ((k : Curve) → has_curve version k ≡ false → f k ≡ pos 0) →
+    f operating +ℤ (f regulating_plus_spinning +ℤ (f regulating +ℤ f short_term)) ≡ sum_of f (curves version)
+over_market version f h = over_all f ∙ sym (summed_over_all version f h)
 
 -- ---- sizes
 module _ (c : Case) (h : CaseRanges c) where

@@ -2,12 +2,12 @@
 -- is known of the records that they are made from. All are made from the figures of `market/specs/Sizes.antt`.
 use Rattle.market.specs.declared.PerCurve.{PerCurve}
 use Rattle.std.specs.Prelude.{List}
-use Rattle.std.specs.Prelude.{ℕ, ◌+◌, ◌*◌, ◌<◌, ◌≤◌, nat_abs}
+use Rattle.std.specs.Prelude.{ℕ, ◌+◌, ◌*◌, ◌<◌, ◌≤◌, length, nat_abs}
 use Rattle.arith.specs.Sums.{total_of, upto}
 use Rattle.market.specs.declared.Kw.{Kw}
 use Rattle.market.specs.declared.Millicents.{Millicents}
 use Rattle.market.specs.declared.Step.{Step}
-use Rattle.market.specs.Case.{energy_steps, curve_steps}
+use Rattle.market.specs.Case.{all_curves, energy_steps, curve_steps}
 use Rattle.market.specs.CaseCheck.{most_zones, most_flowgates}
 use Rattle.market.specs.UpperBounds.{Service, energy, regulation, contingency, on_line_short_term, off_line_short_term}
 use Rattle.market.specs.Rows.{max_with_reserve, max_with_short_term, minimum, high, low}
@@ -46,7 +46,7 @@ most_least_terms = most_service_term energy + most_reserve_terms
 abbrev pub most_resource_terms : ℕ
 most_resource_terms = most_limit_terms + most_least_terms
 
--- of a step of a curve, of a curve, of the four
+-- of a step of a curve, of a curve, of all curves
 abbrev pub most_curve_step_term : ℕ
 most_curve_step_term = most_curve_net * most_curve_width
 
@@ -54,7 +54,7 @@ abbrev pub most_curve_terms : ℕ
 most_curve_terms = curve_steps * most_curve_step_term
 
 abbrev pub most_curves_terms : ℕ
-most_curves_terms = 4 * most_curve_terms
+most_curves_terms = length all_curves * most_curve_terms
 
 -- ---- figures
 -- the price of a row, and its right side in kW: of these, demand is the largest

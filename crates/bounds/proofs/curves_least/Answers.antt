@@ -6,7 +6,7 @@ use Rattle.market.specs.declared.Curve.TheVariants.{Operating as operating, Regu
 use Rattle.market.specs.Records.{reserve_prices_of}
 use Rattle.prices.proofs.Known.{market_small}
 use Rattle.bounds.proofs.PricedTerms.{curve_from_lem, curves_are}
-use Rattle.prices.specs.PricedCase.{the_case, the_prices}
+use Rattle.prices.specs.PricedCase.{case_bytes, the_prices}
 use Rattle.bounds.proofs.curves_least.Goals as goal
 
 pub curve_least-operating-requires : goal.curve_least-operating-requires
@@ -24,7 +24,7 @@ curve_least-short_term-requires c = rw c.market_prices-prices.ensures (market_sm
 pub returns : goal.returns
 unfolding reserve_prices_of
 returns c =
-    let k = the_case c.args.priced.now in
+    let k = case_bytes c.args.priced.now in
     let y = the_prices c.args.priced.now in
     let prices = c.market_prices-prices.ensures in
     let part0 = curve_from_lem k y operating (ap (λ (x : (PerCurve Millicents)). x.operating) prices) c.curve.ensures c.curve_least-operating.ensures in
