@@ -1,5 +1,5 @@
 -- The charges of rows fit a signed 64-bit number: their prices, the sides of their slacks and the products are small enough.
-use mathlib.Core.Path.{◌≡◌, ap}
+use mathlib.Core.Path.{refl, ◌≡◌, ap}
 use Prim.Native.Nat.{ℕ, ◌+◌, ◌*◌, ◌<◌, ◌≤◌}
 use native.Mathlib.Nat.{mul-le-mul}
 use native.Mathlib.Omega.{arith}
@@ -7,7 +7,8 @@ use lib.IntN.{ℤ, pos, nat_abs, ◌+ℤ◌, ◌-ℤ◌, ◌*ℤ◌}
 use Rattle.arith.specs.Sums.{sum_of, upto}
 use Rattle.arith.proofs.Linear.{sorted, count}
 use Rattle.arith.proofs.Magnitudes.{abs-add, abs-sub, abs_neg, abs-mul}
-use Rattle.market.specs.Case.{Case}
+use lib.Dec.{T}
+use Rattle.market.specs.Case.{Case, has_curve, zoned}
 use Rattle.market.specs.declared.Curve.{Curve}
 use Rattle.market.specs.declared.Curve.TheVariants.{Operating as operating, RegulatingPlusSpinning as regulating_plus_spinning, Regulating as regulating, ShortTerm as short_term}
 use Rattle.market.specs.Limits.{max_of, hi_of}
@@ -20,7 +21,7 @@ use Rattle.market.specs.Records.{amounts_of, limit_prices_of, cleared_of, curve_
 use Rattle.market.proofs.Families.{RowOf}
 use Rattle.market.proofs.Ranges.{CaseRanges, PriceRanges}
 use Rattle.market.proofs.RowSlacks.{rows_in_words}
-use Rattle.market.proofs.Versions.{all_four_curves, all_zoned}
+use Rattle.market.proofs.Versions.{zoned_is_curve}
 use Rattle.market.proofs.RowSizes.{right_size}
 use Rattle.market.proofs.LargestSums.{coefficient_figure}
 use Rattle.market.proofs.ScheduleSizes.{amount_of, slack_size}
@@ -96,25 +97,28 @@ module _ (c : Case) (x : Schedule) (y : Prices) (h : CaseRanges c) (p : PriceRan
       let flows = sum_of (λ i. c.shift_factor g i *ℤ kw_of x i energy) (upto c.resources) in
       rw e (omega (arith, abs-mul (pos 1000) (c.flowgate_limit g), (h.flowgate_limit g m).le, right_most limit flows, difference_small (flowgate_row g) m limit flows (words.flowgate g)))
 
-  four_room : (row : Curve → Row) (have need : Curve → ℤ) → ((k : Curve) → RowChargeRoom (y (row k)) (have k) (need k)) →
+  four_room : (row : Curve → Row) (have need : Curve → ℤ) → ((k : Curve) → T (zoned k) → RowChargeRoom (y (row k)) (have k) (need k)) →
       FourRoom (reserve_prices_of y row) (curve_amounts_of have) (curve_amounts_of need)
   unfolding reserve_prices_of
   four_room row have need s =
-      record { operating = s operating; regulating_plus_spinning = s regulating_plus_spinning; regulating = s regulating; short_term = s short_term }
+      record { operating = s operating tt; regulating_plus_spinning = s regulating_plus_spinning tt; regulating = s regulating tt; short_term = s short_term tt }
+
+  pub curve_room : (k : Curve) → T (has_curve c.version k) → (n : ℕ) → n ≡ c.resources → RowChargeRoom (y (market_row k)) (sum_of (reserve_of c x k) (upto n)) (pos (x (cleared_quantity k)))
+  curve_room k t n e = rw e (room_by_right (market_row k) t _ _ (words.market k t) (omega (arith, amount_of c h x b (cleared_quantity k) t)))
 
   pub market_room : (n : ℕ) → n ≡ c.resources → FourRoom (reserve_prices_of y market_row) (curve_amounts_of (λ k. sum_of (reserve_of c x k) (upto n))) (cleared_of x)
   unfolding cleared_of
   market_room n e =
       rw e
       (four_room market_row (λ k. sum_of (reserve_of c x k) (upto c.resources)) (λ k. pos (x (cleared_quantity k)))
-      (λ k. room_by_right (market_row k) (all_four_curves c.version k) _ _ (words.market k (all_four_curves c.version k)) (omega (arith, amount_of c h x b (cleared_quantity k) (all_four_curves c.version k)))))
+      (λ k t. curve_room k (zoned_is_curve c.version k t) c.resources refl))
 
   pub zone_room : (n z : ℕ) → n ≡ c.resources → z < c.zones →
       FourRoom (reserve_prices_of y (zone_row z)) (curve_amounts_of (λ k. sum_of (reserve_in_zone c x z k) (upto n))) (curve_amounts_of (λ k. pos (c.zone_requirement z k)))
   zone_room n z e m =
       rw e
       (four_room (zone_row z) (λ k. sum_of (reserve_in_zone c x z k) (upto c.resources)) (λ k. pos (c.zone_requirement z k))
-      (λ k. room_by_right (zone_row z k) (m, all_zoned k) _ _ (words.zone z k) (omega (arith, h.zone_requirement z k m (all_zoned k)))))
+      (λ k t. room_by_right (zone_row z k) (m, t) _ _ (words.zone z k) (omega (arith, h.zone_requirement z k m t))))
 
   -- MAX and HI stand on the left, MIN and LO on the right
   pub limit_room : (i : ℕ) → i < c.resources → FiveRoom (limit_prices_of y i) (amounts_of x i) (limits_of (c.resource i))

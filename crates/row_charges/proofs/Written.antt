@@ -1,5 +1,7 @@
 -- The charges of rows as far as they are written: how many they are, and one block more.
 use mathlib.Core.Path.{◌≡◌, refl, sym, ap, ◌∙◌}
+use Rattle.market.specs.declared.version.Version.{Version}
+use Rattle.market.specs.declared.version.Version.TheVariants.{First}
 use mathlib.Core.List.{List, [], ◌∷◌, ◌++◌, map, map-append, append_assoc}
 use Prim.Native.Nat.{ℕ, ◌+◌, ◌*◌, ◌-◌, ◌≤◌, ◌<◌}
 use native.Mathlib.Omega.{arith}
@@ -8,8 +10,8 @@ use lib.ListN.{length, take, drop, set, length-map, length-append}
 use borrow.Rule.Slice.PartMut.{put_mid}
 use Rattle.arith.specs.Sums.{upto, across}
 use Rattle.arith.proofs.Lists.{length-across, length-upto, across-upto, map-upto}
-use Rattle.market.specs.Case.{Case, zoned_curves}
-use Rattle.market.specs.Rows.{Row, balance_row, zone_row, flowgate_row, market_rows, zone_rows, flowgate_rows, limit_rows, rows, system_row_count, zone_row_count, resource_row_count, row_count_of}
+use Rattle.market.specs.Case.{Case, zoned_curves, curves}
+use Rattle.market.specs.Rows.{Row, balance_row, market_row, zone_row, flowgate_row, market_rows, zone_rows, flowgate_rows, limit_rows, rows, system_row_count, zone_row_count, resource_row_count, row_count_of}
 use Rattle.arith.proofs.Buffers.{write_on, store_on}
 
 module _ (h : Row → ℤ) where
@@ -38,13 +40,24 @@ module _ (h : Row → ℤ) where
     row_written i o out fit eo =
         rw (map-upto row i, map-append h (map row (upto i)) (row i ∷ [])) (store_on (map h (map row (upto i))) o out (h (row i)) i (row_count_lem i) fit eo)
 
+  -- ---- the market's rows: those of the curves that zones have too
+  all_four : (version : Version) (o out : List ℤ) → out ≡ map h (map market_row zoned_curves) ++ drop zone_row_count o → out ≡ map h (map market_row (curves version)) ++ drop (length (curves version)) o
+  all_four First o out eo = eo
+
   -- ---- families together
   module _ (c : Case) where
+    pub four_written : (o out : List ℤ) → out ≡ map h (map market_row zoned_curves) ++ drop zone_row_count o → out ≡ map h (market_rows c) ++ drop (length (curves c.version)) o
+    four_written = all_four c.version
+
+    pub system_count : length (map h (balance_row ∷ market_rows c)) ≡ system_row_count c.version
+    system_count = length-map (balance_row ∷ market_rows c) h ∙ omega (arith, length-map (curves c.version) market_row)
+
     pub zone_count : {z : ℕ} → z ≡ c.zones → length (map h (balance_row ∷ market_rows c) ++ map h (zone_rows c)) ≡ system_row_count c.version + z * zone_row_count
     zone_count e =
         omega (
           arith,
           e,
+          system_count,
           length-append (map h (balance_row ∷ market_rows c)) (map h (zone_rows c)),
           block_count (λ y. map (zone_row y) zoned_curves) zone_row_count (λ y. refl) c.zones,
         )

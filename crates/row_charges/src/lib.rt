@@ -4,7 +4,7 @@
 #![tactic(auto)]
 
 ghost use Rattle.std.specs.Prelude.{◌≡◌, [], ◌∷◌, map, ◌++◌, ◌+◌, ◌*◌, ◌<◌, ◌≤◌, ◌-ℤ◌, ◌*ℤ◌, length, drop};
-ghost use Rattle.market.specs.Case.{zoned_curves};
+ghost use Rattle.market.specs.Case.{zoned_curves, curves};
 ghost use Rattle.market.specs.Rows.{balance_row, zone_row, flowgate_row, limit_row, all_limits, limits, market_rows, zone_rows, flowgate_rows, limit_rows, rows, system_row_count, zone_row_count, resource_row_count, row_count_of};
 ghost use Rattle.market.specs.Charges.{row_charge};
 ghost use Rattle.market.specs.Records.{grains};
@@ -61,8 +61,8 @@ fn write_four(prices: ReservePrices, have: CurveAmounts, need: CurveAmounts, out
 
 // Against the cleared quantities.
 fn write_market(have: &ReserveTotals<'_>, out: &mut [i64])
-    requires { zone_row_count ≤ length out.old }
-    ensures { out.new ≡ map (row_charge_in (case_bytes have.now.bounded.priced) (certificate_bytes have.now.bounded.priced)) (market_rows (the_case have.now.bounded.priced)) ++ drop zone_row_count out.old }
+    requires { length (curves (the_case have.now.bounded.priced).version) ≤ length out.old }
+    ensures { out.new ≡ map (row_charge_in (case_bytes have.now.bounded.priced) (certificate_bytes have.now.bounded.priced)) (market_rows (the_case have.now.bounded.priced)) ++ drop (length (curves (the_case have.now.bounded.priced).version)) out.old }
 {
     let prices = have.bounded.priced.certificate.market_prices();
     let need = have.bounded.priced.certificate.cleared();
