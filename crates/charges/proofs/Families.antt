@@ -6,11 +6,11 @@ use lib.IntN.{ℤ, pos, nat_abs, ◌+ℤ◌, ◌-ℤ◌, ◌*ℤ◌}
 use lib.ListN.{length, set, drop, length-map}
 use Rattle.arith.specs.Sums.{Each, upto, across}
 use Rattle.arith.proofs.Lists.{each-upto, map-upto, length-upto}
-use Rattle.market.proofs.Versions.{all_four_curves}
+use lib.Dec.{T}
 use Rattle.market.proofs.Lengths.{resource_priced}
 use Rattle.market.specs.declared.version.Version.{Version}
 use Rattle.market.specs.declared.version.Version.TheVariants.{First as first}
-use Rattle.market.specs.Case.{Case, curves, energy_steps, curve_steps}
+use Rattle.market.specs.Case.{Case, has_curve, zoned_curves, curves, energy_steps, curve_steps}
 use Rattle.market.specs.declared.Curve.{Curve}
 use Rattle.market.specs.declared.Curve.TheVariants.{Operating as operating, RegulatingPlusSpinning as regulating_plus_spinning, Regulating as regulating, ShortTerm as short_term}
 use Rattle.market.specs.declared.Step.{Step}
@@ -18,7 +18,7 @@ use Rattle.market.specs.Availability.{on_line}
 use Rattle.market.specs.UpperBounds.{Schedule, provided_quantity, cleared_quantity, energy, reserve_services}
 use Rattle.market.specs.Rows.{market_row}
 use Rattle.market.specs.Certificate.{Prices}
-use Rattle.market.specs.Cost.{priced_energy_step, priced_whole, priced_curve_step, priced_of, curve_priced, priced, part, priced_upper_bound, resource_priced_count}
+use Rattle.market.specs.Cost.{curve_priced_count, priced_energy_step, priced_whole, priced_curve_step, priced_of, curve_priced, priced, part, priced_upper_bound, resource_priced_count}
 use Rattle.market.specs.Bound.{lowest}
 use Rattle.market.specs.Charges.{priced_charge}
 use Rattle.market.specs.Records.{millicents, amounts_of, offer_step_of, offer_steps_of, curve_step_of, curve_steps_of}
@@ -30,7 +30,7 @@ use Rattle.net_prices.specs.NetPrices.{nets_of}
 use Rattle.net_prices.proofs.Known.{step_is}
 use Rattle.limits.specs.Together.{reserve_bounds_of}
 use Rattle.bounds.specs.Terms.{step_least, curve_step_least}
-use Rattle.bounds.proofs.PricedTerms.{step_least_is, curve_step_least_is}
+use Rattle.bounds.proofs.PricedTerms.{step_least_is, had_step_least}
 use Rattle.limits.specs.Widths.{widths_of}
 use Rattle.costs.proofs.Filling.{filled_same}
 use Rattle.arith.proofs.Buffers.{store_on}
@@ -92,23 +92,28 @@ module _ (c : Case) (x : Schedule) (y : Prices) where
   resource_count i = length-map (priced_of c.version i) (priced_charge c x y) ∙ resource_priced c.version i
 
   -- ---- the curves
-  curve_charge_is : (k : Curve) (j : ℕ) → j < curve_steps → curve_charge (millicents (y (market_row k))) (curve_steps_of c k) (x (cleared_quantity k)) j ≡ priced_charge c x y (priced_curve_step k j)
+  curve_charge_is : (k : Curve) → T (has_curve c.version k) → (j : ℕ) → j < curve_steps → curve_charge (millicents (y (market_row k))) (curve_steps_of c k) (x (cleared_quantity k)) j ≡ priced_charge c x y (priced_curve_step k j)
   unfolding curve_step_charge curve_step_least priced_charge part curve_step_of
-  curve_charge_is k j l =
+  curve_charge_is k h j l =
       charge_by
-      (ap (λ (t : Step). y (market_row k) -ℤ pos 1000 *ℤ t.price.0) (curve_step_is c k j l) ∙ sym ((net_prices_in_words c y).curve_step k (all_four_curves c.version k) j))
+      (ap (λ (t : Step). y (market_row k) -ℤ pos 1000 *ℤ t.price.0) (curve_step_is c k j l) ∙ sym ((net_prices_in_words c y).curve_step k h j))
       (ap pos (filled_same (widths_of (curve_step (curve_steps_of c k))) (c.curve_width k) (x (cleared_quantity k)) curve_steps (λ m l. ap width_in (curve_step_is c k m l)) j l))
-      (curve_step_least_is c y k j l)
+      (had_step_least c y k h j l)
 
-  pub curve_is : (k : Curve) → map (curve_charge (millicents (y (market_row k))) (curve_steps_of c k) (x (cleared_quantity k))) (upto curve_steps) ≡ map (priced_charge c x y) (curve_priced k)
-  curve_is k = map_same _ _ (upto curve_steps) (each-upto _ curve_steps (curve_charge_is k)) ∙ sym (map-map (priced_charge c x y) (priced_curve_step k) (upto curve_steps))
+  pub curve_is : (k : Curve) → T (has_curve c.version k) → map (curve_charge (millicents (y (market_row k))) (curve_steps_of c k) (x (cleared_quantity k))) (upto curve_steps) ≡ map (priced_charge c x y) (curve_priced k)
+  curve_is k h = map_same _ _ (upto curve_steps) (each-upto _ curve_steps (curve_charge_is k h)) ∙ sym (map-map (priced_charge c x y) (priced_curve_step k) (upto curve_steps))
 
   -- four steps each, two and two
   pub curves_are : (map (priced_charge c x y) (curve_priced operating) ++ map (priced_charge c x y) (curve_priced regulating_plus_spinning))
       ++ (map (priced_charge c x y) (curve_priced regulating) ++ map (priced_charge c x y) (curve_priced short_term))
       ≡ map (priced_charge c x y) (across curve_priced (curves c.version))
   unfolding upto across
-  curves_are = refl
+  curves_are = by_version c.version
+    where
+      by_version : (version : Version) → (map (priced_charge c x y) (curve_priced operating) ++ map (priced_charge c x y) (curve_priced regulating_plus_spinning))
+          ++ (map (priced_charge c x y) (curve_priced regulating) ++ map (priced_charge c x y) (curve_priced short_term))
+          ≡ map (priced_charge c x y) (across curve_priced (curves version))
+      by_version first = refl
 
   -- ---- all
   pub priced_are : across (λ i. map (priced_charge c x y) (priced_of c.version i)) (upto c.resources) ++ map (priced_charge c x y) (across curve_priced (curves c.version)) ≡ map (priced_charge c x y) (priced c)
@@ -120,3 +125,6 @@ module _ (c : Case) (x : Schedule) (y : Prices) where
 -- of what is priced of a resource
 pub resource_priced_is : (version : Version) → resource_priced_count version ≡ 14
 resource_priced_is first = refl
+
+pub sixteen_steps : (version : Version) → curve_priced_count version ≡ 16
+sixteen_steps first = refl

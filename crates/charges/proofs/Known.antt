@@ -11,8 +11,8 @@ use lib.IntN.{ℤ, nat_abs}
 use lib.ListN.{length, drop, length-map}
 use Rattle.arith.specs.Sums.{upto, across}
 use Rattle.arith.proofs.Lists.{length-across, length-upto}
-use Rattle.market.proofs.Versions.{all_four_curves}
-use Rattle.market.specs.Case.{Case, curves, energy_steps}
+use lib.Dec.{T}
+use Rattle.market.specs.Case.{Case, has_curve, curves, energy_steps}
 use Rattle.market.specs.declared.Curve.{Curve}
 use Rattle.market.specs.declared.Curve.TheVariants.{Operating as operating, RegulatingPlusSpinning as regulating_plus_spinning, Regulating as regulating, ShortTerm as short_term}
 use Rattle.market.specs.CaseFile.{case_of}
@@ -67,8 +67,8 @@ module _ {b q : List ℕ} {r z f : ℕ} (s : Standing b q r z f) where
     resource_listed en eo es ea eu = rw (en, eo, es, ea, eu) (resource_is c x y (case_ranges s.prices) (prices_in_range s.prices) i (resource_below s.prices l))
 
   -- ---- a curve
-  pub curve_fits : (k : Curve) → CurveRoom (millicents (y (market_row k))) (power (x (cleared_quantity k)))
-  curve_fits k = record { row_price = ((prices_in_range s.prices).price (market_row k) (all_four_curves c.version k)).le; cleared = cleared_known s k }
+  pub curve_fits : (k : Curve) → T (has_curve c.version k) → CurveRoom (millicents (y (market_row k))) (power (x (cleared_quantity k)))
+  curve_fits k h = record { row_price = ((prices_in_range s.prices).price (market_row k) h).le; cleared = cleared_known s k }
 
   -- ---- all
   pub all_listed : across (resource_charges b q) (upto r) ++ map (charge_in b q) (across curve_priced (curves (case_of b).version)) ≡ map (charge_in b q) (priced c)
@@ -92,10 +92,10 @@ unfolding upto
 pair_count first second = refl
 
 module _ (b q : List ℕ) where
-  curve_listed : (k : Curve) {p : Millicents} {o : (List Step)} {a : Kw} →
+  curve_listed : (k : Curve) → T (has_curve (case_of b).version k) → {p : Millicents} {o : (List Step)} {a : Kw} →
       p ≡ millicents ((certificate_of q).price (market_row k)) → o ≡ curve_steps_of (case_of b) k → a ≡ power ((certificate_of q).amount (cleared_quantity k)) →
       map (curve_charge p o (nat_abs a.0)) (upto 4) ≡ map (charge_in b q) (curve_priced k)
-  curve_listed k e d g = (λ i. map (curve_charge (e i) (d i) (nat_abs (g i).0)) (upto 4)) ∙ curve_is (case_of b) (certificate_of q).amount (certificate_of q).price k
+  curve_listed k h e d g = (λ i. map (curve_charge (e i) (d i) (nat_abs (g i).0)) (upto 4)) ∙ curve_is (case_of b) (certificate_of q).amount (certificate_of q).price k h
 
   pub curves_listed : {p : (PerCurve Millicents)} {a : (PerCurve Kw)} {first second third fourth : (List Step)} →
       p ≡ reserve_prices_of (certificate_of q).price market_row → a ≡ cleared_of (certificate_of q).amount →
@@ -105,10 +105,10 @@ module _ (b q : List ℕ) where
       ≡ map (charge_in b q) (across curve_priced (curves (case_of b).version))
   unfolding reserve_prices_of cleared_of
   curves_listed e g d₁ d₂ d₃ d₄ =
-      let one = curve_listed operating (λ i. (e i).operating) d₁ (λ i. (g i).operating) in
-      let two = curve_listed regulating_plus_spinning (λ i. (e i).regulating_plus_spinning) d₂ (λ i. (g i).regulating_plus_spinning) in
-      let three = curve_listed regulating (λ i. (e i).regulating) d₃ (λ i. (g i).regulating) in
-      let four = curve_listed short_term (λ i. (e i).short_term) d₄ (λ i. (g i).short_term) in
+      let one = curve_listed operating tt (λ i. (e i).operating) d₁ (λ i. (g i).operating) in
+      let two = curve_listed regulating_plus_spinning tt (λ i. (e i).regulating_plus_spinning) d₂ (λ i. (g i).regulating_plus_spinning) in
+      let three = curve_listed regulating tt (λ i. (e i).regulating) d₃ (λ i. (g i).regulating) in
+      let four = curve_listed short_term tt (λ i. (e i).short_term) d₄ (λ i. (g i).short_term) in
       (λ i. (one i ++ two i) ++ (three i ++ four i))
       ∙ curves_are (case_of b) (certificate_of q).amount (certificate_of q).price
 
