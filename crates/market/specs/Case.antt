@@ -27,7 +27,7 @@ zoned regulating_plus_spinning = true
 zoned regulating = true
 zoned short_term = true
 
--- those of a zone, and those of a version, in the file's order
+-- those of a zone, and those of a version, in the file's order: behind them what ramping adds, nothing so far
 abbrev pub zoned_curves : List Curve
 zoned_curves = operating ∷ regulating_plus_spinning ∷ regulating ∷ short_term ∷ []
 
