@@ -10,7 +10,7 @@ use lib.Dec.{T}
 use Rattle.market.proofs.Lengths.{resource_priced}
 use Rattle.market.specs.declared.version.Version.{Version}
 use Rattle.market.specs.declared.version.Version.TheVariants.{First as first}
-use Rattle.market.specs.Case.{Case, has_curve, zoned_curves, curves, energy_steps, curve_steps}
+use Rattle.market.specs.Case.{Case, has_curve, curves, energy_steps, curve_steps}
 use Rattle.market.specs.declared.Curve.{Curve}
 use Rattle.market.specs.declared.Curve.TheVariants.{Operating as operating, RegulatingPlusSpinning as regulating_plus_spinning, Regulating as regulating, ShortTerm as short_term}
 use Rattle.market.specs.declared.Step.{Step}

@@ -1,7 +1,6 @@
 use native.Mathlib.Omega.{arith}
 use Rattle.market.specs.declared.Curve.TheVariants.{Operating as operating, RegulatingPlusSpinning as regulating_plus_spinning, Regulating as regulating, ShortTerm as short_term}
 use Rattle.market.specs.Records.{cleared_of}
-use Rattle.costs.specs.Worth.{curve_value}
 use Rattle.costs.proofs.Totals.{curves_added_up, curve_value_is}
 use Rattle.costs.proofs.Known.{cleared_known, curve_size, two_curves_size, three_curves_size}
 use Rattle.prices.specs.PricedCase.{the_case, the_amounts, case_bytes}

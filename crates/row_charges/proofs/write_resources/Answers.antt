@@ -1,4 +1,4 @@
-use mathlib.Core.List.{List, map, ◌++◌}
+use mathlib.Core.List.{map, ◌++◌}
 use mathlib.Core.Path.{◌≡◌, refl, ap, ◌∙◌}
 use Prim.Native.Nat.{ℕ, ◌*◌}
 use native.Mathlib.Omega.{arith}
