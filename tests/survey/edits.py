@@ -92,7 +92,7 @@ EDITS = [
     ("neighbouring_zone", "Rows", "cond (eqb (c.resource i).zone (suc z))", "cond (eqb (c.resource i).zone z)"),
     ("flowgate_sign", "Rows", "coefficient c (flowgate_row f) (provided_quantity i s) = neg_ℤ (entries (c.shift_factor f i) none none none none none none s)", "coefficient c (flowgate_row f) (provided_quantity i s) = entries (c.shift_factor f i) none none none none none none s"),
     ("flowgate_kilowatts", "Rows", "right_side c (flowgate_row f) = neg_ℤ (pos 1000 *ℤ c.flowgate_limit f)", "right_side c (flowgate_row f) = neg_ℤ (c.flowgate_limit f)"),
-    ("short_term_below_high", "Rows", "right_side c (limit_row i max_with_short_term) = neg_ℤ (pos (max_of (c.resource i)))", "right_side c (limit_row i max_with_short_term) = neg_ℤ (pos (hi_of (c.resource i)))"),
+    ("short_term_below_high", "Rows", "right_side c (limit_row i max_with_short_term) = neg_ℤ (pos (max_of (c.resource i)))", "right_side c (limit_row i max_with_short_term) = neg_ℤ (hi_of (c.resource i))"),
     ("minimum_with_regulation", "Rows", "in_limit minimum = entries one minus_one none none none", "in_limit minimum = entries one one none none none"),
     # certificate
     ("flowgate_price_more", "Certificate", "highest_price (flowgate_row f) = 400000", "highest_price (flowgate_row f) = 400000000"),
