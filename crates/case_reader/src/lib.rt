@@ -1,6 +1,7 @@
-// The one reader that records are read out of a case through: the lent bytes of the case, with its three counts.
-// Each method asks nothing but an index in range. What it reads of a part is read by `case_records`, or by the part's own methods. The counts are
-// fields of their own, and not one `Counts`, since most contracts name one of them.
+// The one reader that records are read out of a case through: the lent bytes of the case, with its three counts (`CaseReader`); and the
+// same of a whole case of these counts (`SizedCase`), where each method asks nothing but an index in range. What a method reads of a part is
+// read by `case_records`, or by the part's own methods. The counts are fields of their own, and not one `Counts`, since most contracts
+// name one of them.
 #![tactic(auto)]
 
 ghost use Rattle.std.specs.Prelude.{◌≡◌, ◌<◌};
@@ -13,6 +14,10 @@ use market::{
     Counts, Curve, CurveAmounts, CurveSteps, Kw, OfferSteps, Resource, ShiftFactor, Terms, Version,
 };
 use wire::{CaseHead, FlowgateBytes, ResourceBytes};
+
+mod reader;
+
+pub use reader::CaseReader;
 
 #[derive(Clone, Copy)]
 pub struct SizedCase<'a> {
@@ -42,6 +47,20 @@ impl<'a> SizedCase<'a> {
         }
     }
 
+    fn reader(&self) -> CaseReader<'a>
+        ensures bytes { result.bytes ≡ self.now.bytes }
+        ensures resources { result.resources ≡ self.now.resources }
+        ensures zones { result.zones ≡ self.now.zones }
+        ensures flowgates { result.flowgates ≡ self.now.flowgates }
+    {
+        CaseReader {
+            bytes: self.bytes,
+            resources: self.resources,
+            zones: self.zones,
+            flowgates: self.flowgates,
+        }
+    }
+
     // Of the file, which is a known one.
     #[tactic(auto, unfolding(market::specs::CaseFile::case_as))]
     pub fn version(&self) -> Version
@@ -61,19 +80,19 @@ impl<'a> SizedCase<'a> {
     pub fn demand(&self) -> Kw
         ensures { result ≡ power (case_in self.now).demand }
     {
-        case_records::demand(&self.head())
+        self.reader().demand()
     }
 
     pub fn terms(&self) -> Terms
         ensures { result ≡ terms_of (case_in self.now) }
     {
-        case_records::terms(&self.head())
+        self.reader().terms()
     }
 
     pub fn curve(&self, curve: Curve) -> CurveSteps
         ensures { result ≡ curve_steps_of (case_in self.now) curve }
     {
-        case_records::curve_at(&self.head(), curve)
+        self.reader().curve(curve)
     }
 
     // ---- zones, counted from 0
@@ -82,7 +101,7 @@ impl<'a> SizedCase<'a> {
         requires { z < self.now.zones }
         ensures { result ≡ zone_requirements_of (case_in self.now) z }
     {
-        case_records::zone_at(self.bytes, z)
+        self.reader().zone(z)
     }
 
     // ---- resources, counted from 0
@@ -101,7 +120,7 @@ impl<'a> SizedCase<'a> {
         requires { i < self.now.resources }
         ensures { result ≡ record_of ((case_in self.now).resource i) }
     {
-        case_records::record_of(&self.resource_bytes(i))
+        self.reader().resource(i)
     }
 
     // The energy steps of resource i.
@@ -110,7 +129,7 @@ impl<'a> SizedCase<'a> {
         requires { i < self.now.resources }
         ensures { result ≡ offer_steps_of ((case_in self.now).resource i) }
     {
-        case_records::offer_steps_of(&self.resource_bytes(i))
+        self.reader().offer_steps(i)
     }
 
     // ---- flowgates, counted from 0
@@ -130,7 +149,7 @@ impl<'a> SizedCase<'a> {
         requires { f < self.now.flowgates }
         ensures { result ≡ kw ((case_in self.now).flowgate_limit f) }
     {
-        Kw(self.flowgate_bytes(f).limit())
+        self.reader().flowgate_limit(f)
     }
 
     #[tactic(auto, unfolding(market::specs::CaseFile::case_as))]
@@ -138,6 +157,6 @@ impl<'a> SizedCase<'a> {
         requires { (f < self.now.flowgates) × (i < self.now.resources) }
         ensures { result ≡ shift_factor ((case_in self.now).shift_factor f i) }
     {
-        ShiftFactor(self.flowgate_bytes(f).factor(i))
+        self.reader().shift_factor(f, i)
     }
 }
