@@ -3,3 +3,4 @@ pub mod Factors
 pub mod Widths
 pub mod Products
 pub mod Extremes
+pub mod WhichBounds

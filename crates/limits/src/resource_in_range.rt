@@ -222,7 +222,6 @@ impl ResourceInRange {
     }
 
     // By the three cases. Tripped, it provides nothing.
-    #[tactic(auto, unfolding(crate::specs::Together::reserve_bounds_of, crate::specs::Together::reserve_bounds_when, market::specs::UpperBounds::service_bound, market::specs::UpperBounds::bound_when))]
     pub fn reserve_bounds(
         self,
         most: Kw,
