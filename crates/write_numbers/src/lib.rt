@@ -135,6 +135,9 @@ fn numbers_fit(file: File, v: &[i64], n: Counts) -> bool
     (0..count).all(|k| file.field_at(n, k).fits(v[k]))
 }
 
+// Put into each of its two callers, where the file is known: with a file that is not, each number's field is worked out for both, and a
+// certificate is written in 1.6 times the time.
+#[inline(always)]
 #[tactic(auto, unfolding(market::specs::Numbers::list_grounds, market::specs::Numbers::fields_for, market::specs::Refusals::first_of))]
 fn list_stage(file: File, v: &[i64]) -> Result<Counts, Refusal>
     ensures { result ≡ answered (listed_counts v.now) (first_of (list_grounds (fields_of file) written_version v.now)) }
@@ -153,11 +156,12 @@ fn list_stage(file: File, v: &[i64]) -> Result<Counts, Refusal>
 }
 
 // ---- 5, 6, 7
-// Of the file that is to be written, put into bytes that no one reads afterwards.
-fn case_stage(v: &[i64]) -> Result<Counts, Refusal>
+// Of the file that is to be written, put into bytes that no one reads afterwards. Kept apart from `case_stage`: in one function with the
+// list's stage the bytes are filled twice.
+fn filed_stage(v: &[i64], counts: Counts) -> Result<Counts, Refusal>
+    requires { Listed Case v.now counts.version counts.resources counts.zones counts.flowgates }
     ensures { result ≡ answered (listed_counts v.now) (first_of (writing_grounds Case v.now)) }
 {
-    let counts = list_stage(File::Case, v)?;
     let list = NumberList {
         file: File::Case,
         numbers: v,
@@ -167,6 +171,13 @@ fn case_stage(v: &[i64]) -> Result<Counts, Refusal>
     let file = &mut bytes[..list.size()];
     list.put(file);
     case_check::case_stage(file)
+}
+
+fn case_stage(v: &[i64]) -> Result<Counts, Refusal>
+    ensures { result ≡ answered (listed_counts v.now) (first_of (writing_grounds Case v.now)) }
+{
+    let counts = list_stage(File::Case, v)?;
+    filed_stage(v, counts)
 }
 
 // ---- the operations
