@@ -1,6 +1,6 @@
 -- From an answer's enum to what a C host receives.
 use Rattle.std.specs.Prelude.{Result, Ok, Err}
-use mathlib.Core.Path.{◌≡◌, refl, ap}
+use mathlib.Core.Path.{◌≡◌, refl, ap, ◌∙◌}
 use mathlib.Core.List.{List}
 use Prim.Native.Nat.{ℕ, ◌<◌}
 use native.Mathlib.Omega.{arith}
@@ -36,3 +36,7 @@ numbered R.InputLength = omega arith
 pub reported : (c q : List ℕ) (o : Result Valuation Refusal) (r : CheckResult) → Checked c q o → r ≡ result_of o → Reported c q r
 reported c q (Ok v) r h e = rw e (record { answer = ap result_of h.answer; promise = λ z. h.promise v.cost.0 v.bound.0 v.gap.0 refl })
 reported c q (Err w) r h e = rw e (record { answer = ap result_of h.answer; promise = λ z. absurd (omega (arith, numbered w)) })
+
+-- a result that agrees with another in each field is what that one is
+pub same_result : {r s t : CheckResult} → s ≡ t → r.refusal ≡ s.refusal → r.place ≡ s.place → r.cost ≡ s.cost → r.bound ≡ s.bound → r.gap ≡ s.gap → r ≡ t
+same_result {r} {s} is refusal place cost bound gap = let same : r ≡ s = λ i. record { refusal = refusal i; place = place i; cost = cost i; bound = bound i; gap = gap i } in same ∙ is

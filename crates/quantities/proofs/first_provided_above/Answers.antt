@@ -1,4 +1,5 @@
-use Rattle.std.proofs.Common.{◌≡◌, ap, ◌+◌, ◌*◌, arith}
+use Rattle.std.proofs.Common.{◌≡◌, ◌∙◌, ap, ℕ, ◌+◌, ◌*◌, arith}
+use Rattle.std.specs.Prelude.{Some}
 use Rattle.market.specs.declared.Refusal.TheVariants.{AboveBound}
 use Rattle.market.specs.UpperBounds.{upper_bound}
 use Rattle.certificate_records.specs.Reader.{certificate_in}
@@ -28,7 +29,7 @@ found c =
     rw (c.curves-first_provided.ensures, c.services.ensures, c.version-version.ensures) at (c.provided_above.ensures case (the_amounts p) (upper_bound case) i c.amounts-given.ensures most)
 
 pub returns-in-Some : goal.returns-in-Some
-returns-in-Some c = search_stop _ _ (provided (the_case c.args.priced.now).version) _ (as_many _) _ c.loop-i.i c.loop-i.invariant c.provided_above.result (found (goal.at.returns-in-Some c).After-provided_above) _ c.in-Some.place (omega arith) cc
+returns-in-Some c = ap (λ (p : ℕ). found_at AboveBound (Some p)) (omega arith) ∙ search_stop _ _ (provided (the_case c.args.priced.now).version) _ (as_many _) _ c.loop-i.i c.loop-i.invariant c.provided_above.result (found (goal.at.returns-in-Some c).After-provided_above) _ c.in-Some.place (omega arith) cc
 
 pub loop-i-preserved : goal.loop-i-preserved
 loop-i-preserved c = search_more _ _ (provided (the_case c.args.priced.now).version) _ (as_many _) _ c.loop-i.i c.loop-i.invariant c.provided_above.result (found (goal.at.loop-i-preserved c).After-provided_above) cc
