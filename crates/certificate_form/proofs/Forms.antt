@@ -32,11 +32,11 @@ length_from q {least} e =
 
 -- ---- 8 to 11, each where the earlier ones have passed; 10 and 11 of the case's counts by value
 module _ (q : List ℕ) {n : Counts} (c : Case) (e : n ≡ counts_in c) where
-  counts_are_lem : counts_are q n ≡ same_counts c (certificate_of q)
+  pub counts_are_lem : counts_are q n ≡ same_counts c (certificate_of q)
   unfolding counts_are same_counts certificate_as
   counts_are_lem = ap (λ (m : Counts). counts_are q m) e
 
-  size_is_lem : size_is q n ≡ eqb (length q) (certificate_size c.version c.resources c.zones c.flowgates)
+  pub size_is_lem : size_is q n ≡ eqb (length q) (certificate_size c.version c.resources c.zones c.flowgates)
   unfolding size_is
   size_is_lem = ap (λ (m : Counts). size_is q m) e
 

@@ -135,8 +135,8 @@ fn numbers_fit(file: File, v: &[i64], n: Counts) -> bool
     (0..count).all(|k| file.field_at(n, k).fits(v[k]))
 }
 
-// Put into each of its two callers, where the file is known: with a file that is not, each number's field is worked out for both, and a
-// certificate is written in 1.6 times the time.
+// Put into each of its two callers, where the file is known: with a file that is not, each number's field is looked for in both, and
+// writing a certificate takes some three times the instructions.
 #[inline(always)]
 #[tactic(auto, unfolding(market::specs::Numbers::list_grounds, market::specs::Numbers::fields_for, market::specs::Refusals::first_of))]
 fn list_stage(file: File, v: &[i64]) -> Result<Counts, Refusal>
